@@ -1,0 +1,10 @@
+use borrow.Author.Needs.{needs}
+use native.Mathlib.Omega.{arith}
+use mathlib.Core.Path.{_≡_, ap, _∙_}
+use lib.ListN.{length, length-append}
+use Rattle.feed.proofs.Window.read_more.Needs as need
+
+pub returns : need.returns
+returns g c =
+    let e = c .in-Continue-append .ensures tt in
+    record { kept = (_, e); more = ap length e ∙ simp length-append (search needs) }

@@ -1,0 +1,95 @@
+// What is done with a window: fill it, look at it, take from it.
+ghost use mathlib.Core.Path.{_≡_};
+ghost use mathlib.Core.Bool.{false, cond};
+ghost use mathlib.Core.List.{[], _++_};
+ghost use Prim.Native.Nat.{_+_, _≤_};
+ghost use lib.ListN.{length, drop};
+ghost use Rattle.std.specs.Results.{Cases, isOk};
+ghost use Rattle.std.specs.Vec.{made};
+ghost use Rattle.feed.specs.Windows.{pendingIn, Extended};
+use crate::Window;
+use std::alloc::AllocError;
+use std::alloc::Global;
+use std::io;
+use std::io::Read;
+use std::mem;
+use wire::packet::lookahead;
+
+// How many bytes are asked of the input at a time.
+const CHUNK: usize = 8192;
+
+impl Window {
+    pub fn new(heap: Global) -> Result<Window, AllocError>
+        ensures { λ r. ⌜ made r (λ w. pendingIn w ≡ []) ⌝ }
+    {
+        let room = lookahead() + CHUNK;
+        Ok(Window {
+            bytes: Vec::with_capacity(heap, room)?,
+            spare: Vec::with_capacity(heap, room)?,
+            start: 0,
+        })
+    }
+
+    // The bytes that were read and not yet taken.
+    pub fn pending(&self) -> &[u8]
+        ensures { λ r. ⌜ now r ≡ pendingIn (now (self .entry)) ⌝ }
+    {
+        let all = self.bytes.as_slice();
+        &all[self.start..]
+    }
+
+    // Takes n bytes from the front, or all where there are fewer.
+    pub fn advance(&mut self, n: usize)
+        ensures { λ _. ⌜ pendingIn (now (self .exit)) ≡ drop n (pendingIn (now (self .entry))) ⌝ }
+    {
+        let left = self.bytes.len() - self.start;
+        self.start += left.min(n);
+    }
+
+    // Reads until so many bytes are pending that the next packet can be told whatever follows, or the input ends: true
+    // where it ends. What was pending stays in front.
+    pub fn fill<R: Read>(&mut self, input: &mut R) -> io::Result<bool>
+        ensures kept { λ _. ⌜ Extended (pendingIn (now (self .entry))) (pendingIn (now (self .exit))) ⌝ }
+        ensures enough { λ r. ⌜ Cases r (λ ended. (ended ≡ false → 1474 ≤ length (pendingIn (now (self .exit))))) (λ _. Unit {0}) ⌝ }
+    {
+        if self.pending().len() >= lookahead() {
+            return Ok(false);
+        }
+        self.compact()?;
+        for _i in 0..lookahead() {
+            if self.read_more(input)? == 0 {
+                return Ok(true);
+            }
+        }
+        Ok(false)
+    }
+
+    // Moves what is pending to the front of the buffer.
+    fn compact(&mut self) -> Result<(), AllocError>
+        ensures { λ _. ⌜ pendingIn (now (self .exit)) ≡ pendingIn (now (self .entry)) ⌝ }
+    {
+        self.spare.clear();
+        let all = self.bytes.as_slice();
+        self.spare.extend_from_slice(&all[self.start..])?;
+        mem::swap(&mut self.bytes, &mut self.spare);
+        self.start = 0;
+        Ok(())
+    }
+
+    // Adds what one call of the input gives, and answers how many bytes that were: 0 at its end.
+    fn read_more<R: Read>(&mut self, input: &mut R) -> io::Result<usize>
+        ensures kept { λ _. ⌜ Extended (pendingIn (now (self .entry))) (pendingIn (now (self .exit))) ⌝ }
+        ensures more { λ r. ⌜ Cases r (λ n. length (pendingIn (now (self .exit))) ≡ length (pendingIn (now (self .entry))) + n) (λ _. Unit {0}) ⌝ }
+    {
+        let mut chunk = [0; CHUNK];
+        let n = input.read(&mut chunk)?;
+        self.append(&chunk[0..n])?;
+        Ok(n)
+    }
+
+    fn append(&mut self, more: &[u8]) -> Result<(), AllocError>
+        ensures { λ r. ⌜ pendingIn (now (self .exit)) ≡ cond (isOk r) (pendingIn (now (self .entry)) ++ now (more .entry)) (pendingIn (now (self .entry))) ⌝ }
+    {
+        self.bytes.extend_from_slice(more)
+    }
+}

@@ -1,0 +1,5 @@
+pub mod Bytes
+pub mod Fields
+pub mod Messages
+pub mod Packets
+pub mod Blocks
