@@ -34,8 +34,8 @@ impl Window {
     pub fn pending(&self) -> &[u8]
         ensures { λ r. ⌜ now r ≡ pendingIn (now (self .entry)) ⌝ }
     {
-        let all = self.bytes.as_slice();
-        &all[self.start..]
+        let held = self.bytes.as_slice();
+        &held[self.start..]
     }
 
     // Takes n bytes from the front, or all where there are fewer.

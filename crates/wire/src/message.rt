@@ -1,6 +1,6 @@
 // The four kinds of message, and what their fields may hold.
 ghost use mathlib.Core.Path.{_≡_};
-ghost use Rattle.wire.specs.Fields.{sideOf, stateOf, unitsOf, termsOf};
+ghost use Rattle.wire.specs.Fields.{sideOf, stateOf, unitsOf, centsOf, termsOf};
 
 // T: a second of the day begins.
 #[derive(Clone, Copy)]
@@ -98,19 +98,28 @@ pub(crate) fn allowed_units(field: u32) -> Option<u32>
     }
 }
 
+// A price field in whole cents.
+fn cents(field: u32) -> Option<u32>
+    ensures { λ r. ⌜ r ≡ centsOf field ⌝ }
+{
+    match field {
+        100..=1_999_999_900 if field % 100 == 0 => Some(field / 100),
+        _ => None,
+    }
+}
+
 impl Terms {
     pub(crate) fn read(side: Side, field: u32) -> Option<Terms>
         ensures { λ r. ⌜ r ≡ termsOf side field ⌝ }
     {
         match (side, field) {
             (Side::Sell, NO_LIMIT) => Some(Terms::Sale { limit: None }),
-            (Side::Sell, 100..=1_999_999_900) if field % 100 == 0 => Some(Terms::Sale {
-                limit: Some(field / 100),
+            (Side::Sell, _) => Some(Terms::Sale {
+                limit: Some(cents(field)?),
             }),
-            (Side::Buy, 100..=1_999_999_900) if field % 100 == 0 => Some(Terms::Bid {
-                limit: field / 100,
+            (Side::Buy, _) => Some(Terms::Bid {
+                limit: cents(field)?,
             }),
-            _ => None,
         }
     }
 }

@@ -191,11 +191,17 @@ impl<'a> Packet<'a> {
     pub fn blocks(&self) -> Blocks<'a>
         ensures { λ r. ⌜ toCome r ≡ contents (now (self .entry)) .messages ⌝ }
     {
+        let Packet {
+            first,
+            count,
+            bytes,
+            ..
+        } = *self;
         Blocks {
-            bytes: self.bytes,
+            bytes,
             at: HEADER,
-            number: self.first,
-            left: blocks_carried(self.count),
+            number: first,
+            left: blocks_carried(count),
         }
     }
 

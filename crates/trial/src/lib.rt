@@ -1,0 +1,8 @@
+// Examples of what the libraries do, as tests.
+
+#[cfg(test)]
+mod faults;
+#[cfg(test)]
+mod packets;
+#[cfg(test)]
+mod windows;
