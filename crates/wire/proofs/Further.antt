@@ -14,18 +14,9 @@ use Rattle.std.proofs.shelf.Ways.{tells}
 use Rattle.std.specs.declared.option.Option.{Option}
 use Rattle.std.specs.declared.option.Option.the-variants.{Some, None}
 use Rattle.fault.specs.declared.Fault.{Fault}
-use Rattle.fault.specs.declared.Fault.the-variants.{NumberTooLarge}
 use Rattle.wire.specs.Bytes.{field, value}
 use Rattle.wire.specs.Packets.{firstOf, countOf, blocksOf, blockAt, blockFault, orElse, firstFault, messageAt, messagesFrom, packetFault, packetOf, followedBy}
-use Rattle.wire.proofs.Walks.{both-none, none-before}
-
-ends-within : (bs : List ℕ) (at : ℕ) → blockFault bs at ≡ None → at + 2 + value at 2 bs ≤ 1472
-ends-within bs at h = grind (arith, tells)
-
--- no fault, and none past byte 1,472
-within : (bs : List ℕ) (k : ℕ) → firstFault bs k ≡ None → blockAt bs k ≤ 1472
-within bs zero h = omega arith
-within bs (suc k) h = ends-within bs (blockAt bs k) (both-none (firstFault bs k) (blockFault bs (blockAt bs k)) h .1)
+use Rattle.wire.proofs.Walks.{both-none, none-before, ends-within, ends-by, faultless}
 
 none-up-to : (bs : List ℕ) (k m : ℕ) → k ≤ m → firstFault bs m ≡ None → firstFault bs k ≡ None
 none-up-to bs k zero l h = let e : k ≡ 0 = omega arith in rw e
@@ -34,15 +25,6 @@ none-up-to bs k (suc m) l h =
       | inl below ↦ none-up-to bs k m (omega arith) (both-none (firstFault bs m) (blockFault bs (blockAt bs m)) h .0)
       | inr past ↦ (let e : k ≡ suc m = omega arith in rw e h)
     ]
-
-cond-none : (b : Bool) (f : Fault) (o : Option Fault) → cond b (Some f) o ≡ None → o ≡ None
-cond-none true f o h = absurd (let z : _≡_ {A = ℕ} 0 1 = cc in omega arith)
-cond-none false f o h = h
-
-blocks-none : (bs : List ℕ) → 20 ≤ length bs → packetFault bs ≡ None → firstFault bs (blocksOf bs) ≡ None
-blocks-none bs long h =
-    let short : ltb (length bs) 20 ≡ false = le-ltb (length bs) 20 long in
-    cond-none (leb (2 ^ 64) (firstOf bs + blocksOf bs)) (NumberTooLarge (firstOf bs)) (firstFault bs (blocksOf bs)) (rw short at h)
 
 module _ (bs more : List ℕ) where
   same-value : (at n : ℕ) → at + n ≤ length bs → value at n (bs ++ more) ≡ value at n bs
@@ -71,7 +53,7 @@ module _ (bs more : List ℕ) where
         go : (firstFault (bs ++ more) k ≡ firstFault bs k) × (firstFault bs k ≡ None → blockAt (bs ++ more) k ≡ blockAt bs k) → (o : Option Fault) → firstFault bs k ≡ o → (firstFault (bs ++ more) (suc k) ≡ firstFault bs (suc k)) × (firstFault bs (suc k) ≡ None → blockAt (bs ++ more) (suc k) ≡ blockAt bs (suc k))
         go ih None e =
             let a = ih .1 e in
-            let w = within bs k e in
+            let w = ends-by bs k e in
             (rw (ih .0, e, a) (same-block (blockAt bs k) w), λ _. rw (a, same-value (blockAt bs k) 2 (omega arith)))
         go ih (Some f) e = (rw (ih .0, e), λ h. absurd (let n = both-none (firstFault bs k) (blockFault bs (blockAt bs k)) h .0 in let z : _≡_ {A = ℕ} 0 1 = cc in omega arith))
 
@@ -79,7 +61,7 @@ module _ (bs more : List ℕ) where
     same-message k m l h =
         let here = none-before bs k m l h in
         let a = same-faults k .1 (none-up-to bs k m (omega arith) h) in
-        let e = ends-within bs (blockAt bs k) here in
+        let e = ends-within bs (blockAt bs k) here .0 in
         rw (same-value 10 8 (omega arith), a, same-value (blockAt bs k) 2 (omega arith), same-field (blockAt bs k + 2) (value (blockAt bs k) 2 bs) (omega arith))
 
     same-messages : (m n k : ℕ) → k + n ≤ m → firstFault bs m ≡ None → messagesFrom (bs ++ more) k n ≡ messagesFrom bs k n
@@ -96,8 +78,8 @@ module _ (bs more : List ℕ) where
     same-answer : (o : Option Fault) → packetFault bs ≡ o → packetOf (bs ++ more) ≡ followedBy more (packetOf bs)
     same-answer (Some f) e = rw (same-packetFault, e)
     same-answer None e =
-        let h = blocks-none bs (omega arith) e in
-        let w = within bs (blocksOf bs) h in
+        let h = faultless bs e .2 in
+        let w = ends-by bs (blocksOf bs) h in
         let a = same-faults (blocksOf bs) .1 h in
         let d = drop-append-le (blockAt bs (blocksOf bs)) bs more (omega arith) in
         rw (same-packetFault, e, same-field 0 10 (omega arith), same-value 10 8 (omega arith), same-value 18 2 (omega arith), same-messages (blocksOf bs) (blocksOf bs) 0 (omega arith) h, a, d)

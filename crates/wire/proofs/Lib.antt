@@ -1,2 +1,4 @@
 mod Walks
 mod Further
+mod Backs
+mod Onlys

@@ -3,7 +3,7 @@ use mathlib.Core.Path.{_≡_, refl, ap}
 use mathlib.Core.Bool.{cond}
 use mathlib.Core.List.{List, [], _∷_}
 use Prim.Native.Nat.{ℕ, zero, suc, _+_, _-_, _^_, _<_, _≤_}
-use lib.Dec.{ltb}
+use lib.Dec.{leb, ltb}
 use lib.ListN.{length, take, drop}
 use native.Mathlib.Omega.{arith}
 use native.Mathlib.Nat.{zero-add, suc-add}
@@ -11,9 +11,11 @@ use mathlib.Core.Logic.{_⊎_, inl, inr}
 use native.Mathlib.Numerals.{add-one, sub-one}
 use Rattle.std.proofs.shelf.Lists.{take-rest, length-drop}
 use Rattle.std.proofs.shelf.Tests.{le-ltb, lt-ltb, lt-leb, cases-lt}
+use Rattle.std.proofs.shelf.Ways.{tells}
 use Rattle.std.specs.declared.option.Option.{Option}
 use Rattle.std.specs.declared.option.Option.the-variants.{Some, None}
 use Rattle.fault.specs.declared.Fault.{Fault}
+use Rattle.fault.specs.declared.Fault.the-variants.{ShortPacket, NumberTooLarge}
 use Rattle.wire.specs.Bytes.{field, value}
 use Rattle.std.specs.declared.result.Result.{Result}
 use Rattle.std.specs.declared.result.Result.the-variants.{Ok}
@@ -75,8 +77,23 @@ all-messages bs m number (suc n) k e s h l =
     let rest = all-messages bs m (number + 1) n (suc k) (omega arith) (omega arith) h l in
     rw (b, lt-ltb (number + 1) (2 ^ 64) small, rest, s)
 
-no-fault : (bs : List ℕ) → 20 ≤ length bs → firstOf bs + blocksOf bs < 2 ^ 64 → firstFault bs (blocksOf bs) ≡ None → packetFault bs ≡ None
+pub no-fault : (bs : List ℕ) → 20 ≤ length bs → firstOf bs + blocksOf bs < 2 ^ 64 → firstFault bs (blocksOf bs) ≡ None → packetFault bs ≡ None
 no-fault bs long fits none = rw (le-ltb (length bs) 20 long, lt-leb (2 ^ 64) (firstOf bs + blocksOf bs) fits) none
+
+judged : (len sum : ℕ) (f g : Fault) (o : Option Fault) → cond (ltb len 20) (Some f) (cond (leb (2 ^ 64) sum) (Some g) o) ≡ None → (20 ≤ len) × (sum < 2 ^ 64) × (o ≡ None)
+judged len sum f g o h = (grind (arith, tells), grind (arith, tells), grind (arith, tells))
+
+-- what it is to have no fault
+pub faultless : (bs : List ℕ) → packetFault bs ≡ None → (20 ≤ length bs) × (firstOf bs + blocksOf bs < 2 ^ 64) × (firstFault bs (blocksOf bs) ≡ None)
+faultless bs h = judged (length bs) (firstOf bs + blocksOf bs) (ShortPacket (length bs)) (NumberTooLarge (firstOf bs)) (firstFault bs (blocksOf bs)) h
+
+pub ends-within : (bs : List ℕ) (at : ℕ) → blockFault bs at ≡ None → (at + 2 + value at 2 bs ≤ 1472) × (at + 2 + value at 2 bs ≤ length bs)
+ends-within bs at h = (grind (arith, tells), grind (arith, tells))
+
+-- blocks with no fault end by byte 1,472
+pub ends-by : (bs : List ℕ) (k : ℕ) → firstFault bs k ≡ None → blockAt bs k ≤ 1472
+ends-by bs zero h = omega arith
+ends-by bs (suc k) h = ends-within bs (blockAt bs k) (both-none (firstFault bs k) (blockFault bs (blockAt bs k)) h .1) .0
 
 -- a packet read with no fault, by its values
 pub answered : (bs : List ℕ) (first count blocks end : ℕ) → 20 ≤ length bs → first ≡ firstOf bs → count ≡ countOf bs → blocks ≡ carried count → first + blocks < 2 ^ 64 → firstFault bs blocks ≡ None → end ≡ blockAt bs blocks

@@ -3,3 +3,4 @@ pub mod Fields
 pub mod Messages
 pub mod Packets
 pub mod Blocks
+pub mod Written

@@ -7,6 +7,7 @@ ghost use Rattle.std.specs.Results.{Cases};
 ghost use Rattle.std.specs.declared.option.Option.the-variants.{Some as Just, None as Nothing};
 ghost use Rattle.wire.specs.Bytes.{value};
 ghost use Rattle.wire.specs.Packets.{carried, firstOf, blockAt, blockFault, firstFault, packetOf, followedBy};
+ghost use Rattle.wire.specs.Written.{Exactly};
 ghost use Rattle.wire.specs.Blocks.{contents, taken, toCome, Step, blockOf, found};
 use crate::bytes::u16_at;
 use fault::Fault;
@@ -140,31 +141,40 @@ pub impl<'a> Iterator for Blocks<'a> as BlocksIterator {
     }
 }
 
+// The packet at the front of the bytes, and the rest.
+fn front(bytes: &[u8]) -> Result<(Packet<'_>, &[u8]), Fault>
+    ensures answer { λ r. ⌜ taken contents (λ rest. now rest) r ≡ packetOf (now (bytes .entry)) ⌝ }
+    ensures shorter { λ r. ⌜ Cases r (λ t. length (now (t .1)) + 20 ≤ length (now (bytes .entry))) (λ _. Unit {0}) ⌝ }
+{
+    if bytes.len() < HEADER {
+        return Err(Fault::ShortPacket {
+            length: bytes.len(),
+        });
+    }
+    let first = first_in(bytes);
+    let count = u16_at(bytes, 18);
+    let blocks = blocks_carried(count);
+    if first > u64::MAX - u64::from(blocks) {
+        return Err(Fault::NumberTooLarge { first });
+    }
+    let end = blocks_end(bytes, blocks)?;
+    let packet = Packet {
+        session: &bytes[0..10],
+        first,
+        count,
+        bytes,
+    };
+    Ok((packet, &bytes[end..]))
+}
+
 impl<'a> Packet<'a> {
     // Takes one packet from the front of the bytes, and hands back the rest.
     pub fn read(bytes: &'a [u8]) -> Result<(Packet<'a>, &'a [u8]), Fault>
         ensures answer { λ r. ⌜ taken contents (λ rest. now rest) r ≡ packetOf (now (bytes .entry)) ⌝ }
+        ensures exactly { λ r. ⌜ Exactly (now (bytes .entry)) (taken contents (λ rest. now rest) r) ⌝ }
         ensures shorter { λ r. ⌜ Cases r (λ t. length (now (t .1)) + 20 ≤ length (now (bytes .entry))) (λ _. Unit {0}) ⌝ }
     {
-        if bytes.len() < HEADER {
-            return Err(Fault::ShortPacket {
-                length: bytes.len(),
-            });
-        }
-        let first = first_in(bytes);
-        let count = u16_at(bytes, 18);
-        let blocks = blocks_carried(count);
-        if first > u64::MAX - u64::from(blocks) {
-            return Err(Fault::NumberTooLarge { first });
-        }
-        let end = blocks_end(bytes, blocks)?;
-        let packet = Packet {
-            session: &bytes[0..10],
-            first,
-            count,
-            bytes,
-        };
-        Ok((packet, &bytes[end..]))
+        front(bytes)
     }
 
     pub fn session(&self) -> &'a [u8]

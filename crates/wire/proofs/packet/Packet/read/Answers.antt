@@ -1,17 +1,12 @@
 use borrow.Author.Needs.{needs}
-use native.Mathlib.Omega.{arith}
-use Prim.Native.Nat.{_+_, _^_, _<_, _≤_}
-use lib.ListN.{length}
-use Rattle.wire.proofs.Walks.{answered, rest-shorter}
+use Prim.Native.Nat.{ℕ, _<_}
+use lib.ListN.{getD}
+use Rattle.wire.proofs.Onlys as onlys
 use Rattle.wire.proofs.packet.Packet.read.Needs as need
 
 pub returns : need.returns
 returns c =
     let bs = c .args .bytes .now in
-    let long : 20 ≤ length bs = omega arith in
-    let fits : c .first-in-first .result + c .blocks-carried-blocks .result < 2 ^ 64 = search needs in
-    let b = c .in-Continue-end .ensures tt in
-    record {
-      answer = answered bs _ _ _ _ long (c .first-in-first .ensures) (c .u16-at-count .ensures) (c .blocks-carried-blocks .ensures) fits (b .0) (b .1);
-      shorter = rest-shorter bs _ _ long (b .1) (b .2 long);
-    }
+    let bytes : (i : ℕ) → getD bs i 0 < 256 = λ i. (let h = c .typed .bytes i in search needs) in
+    let f = c .front .ensures in
+    record { answer = f .answer; exactly = onlys.exactly bs _ bytes (f .answer); shorter = f .shorter }
