@@ -249,6 +249,29 @@ def check_unreadable_input(state: Comparison) -> None:
     state.problems += not good
 
 
+def peak_memory(program: str, packets: int) -> int:
+    """The most memory, in KiB, that the program held once it has taken so many packets of the largest size."""
+    pipe, null = subprocess.PIPE, subprocess.DEVNULL
+    with subprocess.Popen([program], stdin=pipe, stdout=null, stderr=null) as process:
+        assert process.stdin is not None
+        for first in range(packets):
+            process.stdin.write(sized_packet(1_472, first))
+        process.stdin.flush()
+        while unread_bytes(process.stdin.fileno()) and process.poll() is None:
+            time.sleep(0.001)
+        with open(f"/proc/{process.pid}/status") as status:
+            held = next(line for line in status if line.startswith("VmHWM:"))
+    return int(held.split()[1])
+
+
+def check_flat_memory(state: Comparison) -> None:
+    """Memory must not grow with the stream: 20 times the packets, the same peak, give or take 512 KiB."""
+    few, many = peak_memory(state.program, 1_000), peak_memory(state.program, 20_000)
+    good = many - few <= 512
+    print(f"peak memory: {few} KiB over 1.4 MB, {many} KiB over 28 MB{'' if good else ', expected no growth'}")
+    state.problems += not good
+
+
 # The report.
 
 
@@ -280,6 +303,7 @@ def main() -> int:
         compare_all(state, range(given.first, given.first + given.seeds))
         check_closed_output(state)
         check_unreadable_input(state)
+        check_flat_memory(state)
     except OSError as error:
         print(f"cannot compare: {error}")
         state.problems += 1

@@ -1,10 +1,11 @@
 // What is done with a window: fill it, look at it, take from it.
 ghost use mathlib.Core.Path.{_≡_};
-ghost use mathlib.Core.Bool.{false, cond};
+ghost use mathlib.Core.Bool.{true, false, cond};
 ghost use mathlib.Core.List.{[], _++_};
-ghost use Prim.Native.Nat.{_+_, _≤_};
+ghost use Prim.Native.Nat.{_+_, _<_, _≤_};
 ghost use lib.ListN.{length, drop};
 ghost use Rattle.std.specs.Results.{Cases, isOk};
+ghost use Rattle.std.specs.Of.Vec.{vec-len};
 ghost use Rattle.std.specs.Vec.{made};
 ghost use Rattle.feed.specs.Windows.{pendingIn, Extended};
 use crate::Window;
@@ -32,7 +33,8 @@ impl Window {
 
     // The bytes that were read and not yet taken.
     pub fn pending(&self) -> &[u8]
-        ensures { λ r. ⌜ now r ≡ pendingIn (now (self .entry)) ⌝ }
+        ensures value { λ r. ⌜ now r ≡ pendingIn (now (self .entry)) ⌝ }
+        ensures few { λ r. ⌜ length (now r) ≤ 9665 ⌝ }
     {
         let held = self.bytes.as_slice();
         &held[self.start..]
@@ -57,6 +59,9 @@ impl Window {
         }
         self.compact()?;
         for _i in 0..lookahead() {
+            if self.bytes.len() >= lookahead() {
+                break;
+            }
             if self.read_more(input)? == 0 {
                 return Ok(true);
             }
@@ -66,7 +71,8 @@ impl Window {
 
     // Moves what is pending to the front of the buffer.
     fn compact(&mut self) -> Result<(), AllocError>
-        ensures { λ _. ⌜ pendingIn (now (self .exit)) ≡ pendingIn (now (self .entry)) ⌝ }
+        ensures same { λ _. ⌜ pendingIn (now (self .exit)) ≡ pendingIn (now (self .entry)) ⌝ }
+        ensures front { λ r. ⌜ (isOk r ≡ true → now (self .exit) .start ≡ 0) ⌝ }
     {
         self.spare.clear();
         let all = self.bytes.as_slice();
@@ -78,8 +84,10 @@ impl Window {
 
     // Adds what one call of the input gives, and answers how many bytes that were: 0 at its end.
     fn read_more<R: Read>(&mut self, input: &mut R) -> io::Result<usize>
+        requires { ⌜ vec-len (now self .bytes) < 1474 ⌝ }
         ensures kept { λ _. ⌜ Extended (pendingIn (now (self .entry))) (pendingIn (now (self .exit))) ⌝ }
         ensures more { λ r. ⌜ Cases r (λ n. length (pendingIn (now (self .exit))) ≡ length (pendingIn (now (self .entry))) + n) (λ _. Unit {0}) ⌝ }
+        ensures start { λ _. ⌜ now (self .exit) .start ≡ now (self .entry) .start ⌝ }
     {
         let mut chunk = [0; CHUNK];
         let n = input.read(&mut chunk)?;
@@ -88,7 +96,9 @@ impl Window {
     }
 
     fn append(&mut self, more: &[u8]) -> Result<(), AllocError>
-        ensures { λ r. ⌜ pendingIn (now (self .exit)) ≡ cond (isOk r) (pendingIn (now (self .entry)) ++ now (more .entry)) (pendingIn (now (self .entry))) ⌝ }
+        requires { ⌜ vec-len (now self .bytes) + length (now more) ≤ 9665 ⌝ }
+        ensures items { λ r. ⌜ pendingIn (now (self .exit)) ≡ cond (isOk r) (pendingIn (now (self .entry)) ++ now (more .entry)) (pendingIn (now (self .entry))) ⌝ }
+        ensures start { λ _. ⌜ now (self .exit) .start ≡ now (self .entry) .start ⌝ }
     {
         self.bytes.extend_from_slice(more)
     }

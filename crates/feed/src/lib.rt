@@ -4,11 +4,13 @@ ghost use Rattle.std.specs.Of.Vec.{vec-len};
 
 pub mod filling;
 
-// The bytes that are pending are those of `bytes` from `start` on; `spare` is room to move them.
+// The bytes that are pending are those of `bytes` from `start` on, never more than 1,473 + 8,192; `spare` is room to
+// move them.
 #[derive(Drop)]
 pub struct Window {
     bytes: Vec<u8>,
     spare: Vec<u8>,
     start: usize,
     ghost within: { start ≤ vec-len bytes },
+    ghost few: { vec-len bytes ≤ 9665 },
 }

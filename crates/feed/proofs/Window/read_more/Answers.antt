@@ -6,5 +6,5 @@ use Rattle.feed.proofs.Window.read_more.Needs as need
 
 pub returns : need.returns
 returns g c =
-    let e = c .in-Continue-append .ensures tt in
-    record { kept = (_, e); more = ap length e ∙ simp length-append (search needs) }
+    let a = c .in-Continue-append .ensures tt in
+    record { kept = (_, a .items); more = ap length (a .items) ∙ simp length-append (search needs); start = a .start }
