@@ -272,6 +272,25 @@ def check_flat_memory(state: Comparison) -> None:
     state.problems += not good
 
 
+def check_live(state: Comparison) -> None:
+    """A packet is listed once it is there, though the input stays open and nothing follows."""
+    data = EDGES["good"]
+    expected = printed(listing(data))
+    got = b""
+    with subprocess.Popen([state.program], stdin=subprocess.PIPE, stdout=subprocess.PIPE) as process:
+        assert process.stdin is not None and process.stdout is not None
+        process.stdin.write(data)
+        process.stdin.flush()
+        while len(got) < len(expected) and select.select([process.stdout], [], [], CLOSED_LIMIT)[0]:
+            piece = os.read(process.stdout.fileno(), 65_536)
+            if not piece:
+                break
+            got += piece
+    good = got == expected
+    print(f"open input: {'listed at once' if good else 'not listed while more could follow'}")
+    state.problems += not good
+
+
 # The report.
 
 
@@ -304,6 +323,7 @@ def main() -> int:
         check_closed_output(state)
         check_unreadable_input(state)
         check_flat_memory(state)
+        check_live(state)
     except OSError as error:
         print(f"cannot compare: {error}")
         state.problems += 1

@@ -1,14 +1,13 @@
 -- Parts of a list of bytes.
 use mathlib.Core.Path.{_≡_, refl, sym, _∙_}
 use mathlib.Core.Bool.{Bool, true, false, cond}
-use mathlib.Core.List.{List, [], _++_}
+use mathlib.Core.List.{List, _++_}
 use mathlib.Core.Logic.{inl, inr}
 use Prim.Native.Nat.{ℕ, _+_, _-_, _≤_, min}
 use lib.ListN.{length, drop}
 use native.Mathlib.Omega.{arith}
-use Rattle.std.proofs.shelf.Lists.{append-nil, append-assoc, drop-drop, drop-all, drop-append-le}
+use Rattle.std.proofs.shelf.Lists.{drop-drop, drop-all, drop-append-le}
 use Rattle.std.proofs.shelf.Tests.{cases-lt}
-use Rattle.feed.specs.Windows.{Extended}
 
 -- dropping past the end drops all
 pub drop-at-most : (xs : List ℕ) (start n left : ℕ) → left ≡ length xs - start → start ≤ length xs → drop (start + min left n) xs ≡ drop n (drop start xs)
@@ -18,15 +17,6 @@ drop-at-most xs start n left e l =
       | inl few ↦ (let m : min left n ≡ n = omega arith in rw m)
       | inr all ↦ (let m : min left n ≡ left = omega arith in rw m (drop-all (start + left) xs (omega arith) ∙ sym (drop-all (start + n) xs (omega arith))))
     ])
-
-pub unchanged : (xs : List ℕ) → Extended xs xs
-unchanged xs = ([], sym (append-nil xs))
-
-pub same : (xs ys : List ℕ) → ys ≡ xs → Extended xs ys
-same xs ys e = ([], e ∙ sym (append-nil xs))
-
-pub twice : (xs ys zs : List ℕ) → Extended xs ys → Extended ys zs → Extended xs zs
-twice xs ys zs (m, e) (n, f) = (m ++ n, rw (f, e) (append-assoc xs m n))
 
 -- what is appended to a list whose front is dropped
 pub drop-appended : (b : Bool) (xs ys zs : List ℕ) (start : ℕ) → start ≤ length xs → zs ≡ cond b (xs ++ ys) xs → drop start zs ≡ cond b (drop start xs ++ ys) (drop start xs)

@@ -7,27 +7,31 @@ ghost use lib.ListN.{length, drop};
 ghost use Rattle.std.specs.Results.{Cases, isOk};
 ghost use Rattle.std.specs.Of.Vec.{vec-len};
 ghost use Rattle.std.specs.Vec.{made};
-ghost use Rattle.feed.specs.Windows.{pendingIn, Extended};
+ghost use Rattle.feed.specs.Windows.{pendingIn, Extended, seen, sightOf, Right};
+use crate::Front;
 use crate::Window;
 use std::alloc::AllocError;
 use std::alloc::Global;
 use std::io;
 use std::io::Read;
 use std::mem;
-use wire::packet::lookahead;
+use wire::packet::LOOKAHEAD;
+use wire::packet::Packet;
+use wire::packet::needs_more;
 
 // How many bytes are asked of the input at a time.
 const CHUNK: usize = 8192;
 
 impl Window {
     pub fn new(heap: Global) -> Result<Window, AllocError>
-        ensures { λ r. ⌜ made r (λ w. pendingIn w ≡ []) ⌝ }
+        ensures { λ r. ⌜ made r (λ w. (pendingIn w ≡ []) × (w .ended ≡ false)) ⌝ }
     {
-        let room = lookahead() + CHUNK;
+        let room = LOOKAHEAD + CHUNK;
         Ok(Window {
             bytes: Vec::with_capacity(heap, room)?,
             spare: Vec::with_capacity(heap, room)?,
             start: 0,
+            ended: false,
         })
     }
 
@@ -40,39 +44,56 @@ impl Window {
         &held[self.start..]
     }
 
+    // What stands at the front of the stream.
+    pub fn front(&self) -> Front<'_>
+        ensures answer { λ r. ⌜ seen r ≡ sightOf (now (self .entry) .ended) (pendingIn (now (self .entry))) ⌝ }
+        ensures right { λ r. ⌜ Right (now (self .entry) .ended) (pendingIn (now (self .entry))) (seen r) ⌝ }
+    {
+        let pending = self.pending();
+        if self.ended && pending.is_empty() {
+            return Front::Ended;
+        }
+        match Packet::read(pending) {
+            Ok((packet, rest)) => Front::Whole {
+                packet,
+                size: pending.len() - rest.len(),
+            },
+            Err(fault) if needs_more(fault) && !self.ended => Front::Wanting,
+            Err(fault) => Front::Refused(fault),
+        }
+    }
+
     // Takes n bytes from the front, or all where there are fewer.
     pub fn advance(&mut self, n: usize)
-        ensures { λ _. ⌜ pendingIn (now (self .exit)) ≡ drop n (pendingIn (now (self .entry))) ⌝ }
+        ensures rest { λ _. ⌜ pendingIn (now (self .exit)) ≡ drop n (pendingIn (now (self .entry))) ⌝ }
+        ensures same { λ _. ⌜ now (self .exit) .ended ≡ now (self .entry) .ended ⌝ }
     {
         let left = self.bytes.len() - self.start;
         self.start += left.min(n);
     }
 
-    // Reads until so many bytes are pending that the next packet can be told whatever follows, or the input ends: true
-    // where it ends. What was pending stays in front.
-    pub fn fill<R: Read>(&mut self, input: &mut R) -> io::Result<bool>
+    // Reads what one call of the input gives, unless 1,474 bytes are pending or the input has ended. What was pending
+    // stays in front.
+    pub fn fill<R: Read>(&mut self, input: &mut R) -> io::Result<()>
         ensures kept { λ _. ⌜ Extended (pendingIn (now (self .entry))) (pendingIn (now (self .exit))) ⌝ }
-        ensures enough { λ r. ⌜ Cases r (λ ended. (ended ≡ false → 1474 ≤ length (pendingIn (now (self .exit))))) (λ _. Unit {0}) ⌝ }
+        ensures more { λ r. ⌜ Cases r (λ _. (now (self .exit) .ended ≡ false → length (pendingIn (now (self .entry))) < 1474 → length (pendingIn (now (self .entry))) < length (pendingIn (now (self .exit))))) (λ _. now (self .exit) .ended ≡ now (self .entry) .ended) ⌝ }
+        ensures over { λ _. ⌜ (now (self .entry) .ended ≡ true → (now (self .exit) .ended ≡ true) × (pendingIn (now (self .exit)) ≡ pendingIn (now (self .entry)))) ⌝ }
     {
-        if self.pending().len() >= lookahead() {
-            return Ok(false);
+        if self.ended || self.pending().len() >= LOOKAHEAD {
+            return Ok(());
         }
         self.compact()?;
-        for _i in 0..lookahead() {
-            if self.bytes.len() >= lookahead() {
-                break;
-            }
-            if self.read_more(input)? == 0 {
-                return Ok(true);
-            }
+        if self.read_more(input)? == 0 {
+            self.ended = true;
         }
-        Ok(false)
+        Ok(())
     }
 
     // Moves what is pending to the front of the buffer.
     fn compact(&mut self) -> Result<(), AllocError>
-        ensures same { λ _. ⌜ pendingIn (now (self .exit)) ≡ pendingIn (now (self .entry)) ⌝ }
+        ensures items { λ _. ⌜ pendingIn (now (self .exit)) ≡ pendingIn (now (self .entry)) ⌝ }
         ensures front { λ r. ⌜ (isOk r ≡ true → now (self .exit) .start ≡ 0) ⌝ }
+        ensures same { λ _. ⌜ now (self .exit) .ended ≡ now (self .entry) .ended ⌝ }
     {
         self.spare.clear();
         let all = self.bytes.as_slice();
@@ -87,7 +108,7 @@ impl Window {
         requires { ⌜ vec-len (now self .bytes) < 1474 ⌝ }
         ensures kept { λ _. ⌜ Extended (pendingIn (now (self .entry))) (pendingIn (now (self .exit))) ⌝ }
         ensures more { λ r. ⌜ Cases r (λ n. length (pendingIn (now (self .exit))) ≡ length (pendingIn (now (self .entry))) + n) (λ _. Unit {0}) ⌝ }
-        ensures start { λ _. ⌜ now (self .exit) .start ≡ now (self .entry) .start ⌝ }
+        ensures same { λ _. ⌜ now (self .exit) .ended ≡ now (self .entry) .ended ⌝ }
     {
         let mut chunk = [0; CHUNK];
         let n = input.read(&mut chunk)?;
@@ -98,7 +119,7 @@ impl Window {
     fn append(&mut self, more: &[u8]) -> Result<(), AllocError>
         requires { ⌜ vec-len (now self .bytes) + length (now more) ≤ 9665 ⌝ }
         ensures items { λ r. ⌜ pendingIn (now (self .exit)) ≡ cond (isOk r) (pendingIn (now (self .entry)) ++ now (more .entry)) (pendingIn (now (self .entry))) ⌝ }
-        ensures start { λ _. ⌜ now (self .exit) .start ≡ now (self .entry) .start ⌝ }
+        ensures same { λ _. ⌜ now (self .exit) .ended ≡ now (self .entry) .ended ⌝ }
     {
         self.bytes.extend_from_slice(more)
     }

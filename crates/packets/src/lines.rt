@@ -14,7 +14,7 @@ use wire::packet::Block;
 use wire::packet::Packet;
 use wire::read::read_message;
 
-pub fn write_packet<W: Write>(out: &mut W, packet: &Packet<'_>) -> io::Result<()> {
+pub(crate) fn write_packet<W: Write>(out: &mut W, packet: &Packet<'_>) -> io::Result<()> {
     let session = Quoted(packet.session());
     let first = packet.first();
     let count = packet.count();
@@ -30,7 +30,7 @@ pub fn write_packet<W: Write>(out: &mut W, packet: &Packet<'_>) -> io::Result<()
 }
 
 // A message, or why it is refused.
-pub fn write_block<W: Write>(out: &mut W, block: Block<'_>) -> io::Result<()> {
+pub(crate) fn write_block<W: Write>(out: &mut W, block: Block<'_>) -> io::Result<()> {
     match read_message(block.number, block.bytes) {
         Ok(message) => write_message(out, block.number, message),
         Err(fault) => {
@@ -42,7 +42,7 @@ pub fn write_block<W: Write>(out: &mut W, block: Block<'_>) -> io::Result<()> {
 }
 
 // The word, then the cause's number, its layer, what stands beside it, and the cause in words.
-pub fn write_fault<W: Write>(out: &mut W, word: &str, fault: Fault) -> io::Result<()> {
+pub(crate) fn write_fault<W: Write>(out: &mut W, word: &str, fault: Fault) -> io::Result<()> {
     let cause = fault.number();
     let layer = fault.layer().name();
     let beside = fault.beside();

@@ -4,9 +4,9 @@ use std::fmt;
 // Bytes in quotation marks: printable ASCII as itself, but for the quotation mark and the backslash; every other byte as
 // \x and two hexadecimal digits.
 #[derive(Clone, Copy)]
-pub struct Quoted<'a>(pub &'a [u8]);
+pub(crate) struct Quoted<'a>(pub &'a [u8]);
 
-pub impl fmt::Display for Quoted<'_> as QuotedDisplay {
+pub(crate) impl fmt::Display for Quoted<'_> as QuotedDisplay {
     fn fmt<W: fmt::Write>(&self, f: &mut fmt::Formatter<W>) -> fmt::Result {
         write!(f, "\"")?;
         for byte in self.0 {
@@ -23,9 +23,9 @@ pub impl fmt::Display for Quoted<'_> as QuotedDisplay {
 
 // A second after midnight as hours, minutes and seconds.
 #[derive(Clone, Copy)]
-pub struct TimeOfDay(pub u32);
+pub(crate) struct TimeOfDay(pub u32);
 
-pub impl fmt::Display for TimeOfDay as TimeOfDayDisplay {
+pub(crate) impl fmt::Display for TimeOfDay as TimeOfDayDisplay {
     fn fmt<W: fmt::Write>(&self, f: &mut fmt::Formatter<W>) -> fmt::Result {
         let hours = self.0 / 3600;
         let minutes = self.0 / 60 % 60;

@@ -19,7 +19,7 @@ use Rattle.wire.specs.Bytes.{field, value}
 use Rattle.wire.specs.Packets.{Taken, firstOf, countOf, blocksOf, blockAt, blockFault, firstFault, messageAt, messagesFrom, contentsOf, packetFault, unless, packetOf}
 use Rattle.wire.specs.Written.{bytesOf, blocksBytes, packetBytes, numberedFrom, plain, LaidOut, Exactly}
 use Rattle.wire.proofs.Backs.{four-parts, reads-back}
-use Rattle.wire.proofs.Walks.{both-none, none-before, ends-within, ends-by, faultless}
+use Rattle.wire.proofs.Walks.{none-before, ends-within, ends-by, lies-by, faultless}
 
 -- a field and what comes after it
 cut : (bs : List ℕ) (at n : ℕ) → drop at bs ≡ field at n bs ++ drop (at + n) bs
@@ -27,11 +27,6 @@ cut bs at n = sym (take-append-drop n (drop at bs)) ∙ ap (λ t. field at n bs 
 
 length-field : (bs : List ℕ) (from n : ℕ) → from + n ≤ length bs → length (field from n bs) ≡ n
 length-field bs from n l = let s : n ≤ length (drop from bs) = simp length-drop (omega arith) in length-take-le n (drop from bs) s
-
--- blocks with no fault lie within the bytes
-lies-within : (bs : List ℕ) (n : ℕ) → 20 ≤ length bs → firstFault bs n ≡ None → blockAt bs n ≤ length bs
-lies-within bs zero l h = l
-lies-within bs (suc n) l h = ends-within bs (blockAt bs n) (both-none (firstFault bs n) (blockFault bs (blockAt bs n)) h .1) .1
 
 length-plain : (bs : List ℕ) (k n : ℕ) → length (plain (messagesFrom bs k n)) ≡ n
 length-plain bs k zero = refl
@@ -87,7 +82,7 @@ module _ (bs : List ℕ) (small : (i : ℕ) → getD bs i 0 < 256) where
           counted = sym (length-plain bs 0 n);
           small = omega (arith, small 18, small 19);
           numbers = rw (length-plain bs 0 n) (f .1);
-          ends = omega (arith, ends-by bs n (f .2), lies-within bs n (f .0) (f .2));
+          ends = omega (arith, ends-by bs n (f .2), lies-by bs n (f .0) (f .2));
         };
         numbers = numbered-plain bs n 0 (firstOf bs) (omega arith);
         bytes = header ∙ sym (four-parts (field 0 10 bs) (bytesOf 8 (firstOf bs)) (bytesOf 2 (countOf bs)) (blocksBytes ms) R);

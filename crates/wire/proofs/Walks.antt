@@ -95,6 +95,11 @@ pub ends-by : (bs : List ℕ) (k : ℕ) → firstFault bs k ≡ None → blockAt
 ends-by bs zero h = omega arith
 ends-by bs (suc k) h = ends-within bs (blockAt bs k) (both-none (firstFault bs k) (blockFault bs (blockAt bs k)) h .1) .0
 
+-- and lie within the bytes
+pub lies-by : (bs : List ℕ) (k : ℕ) → 20 ≤ length bs → firstFault bs k ≡ None → blockAt bs k ≤ length bs
+lies-by bs zero l h = l
+lies-by bs (suc k) l h = ends-within bs (blockAt bs k) (both-none (firstFault bs k) (blockFault bs (blockAt bs k)) h .1) .1
+
 -- a packet read with no fault, by its values
 pub answered : (bs : List ℕ) (first count blocks end : ℕ) → 20 ≤ length bs → first ≡ firstOf bs → count ≡ countOf bs → blocks ≡ carried count → first + blocks < 2 ^ 64 → firstFault bs blocks ≡ None → end ≡ blockAt bs blocks
     → _≡_ {A = Result Taken Fault} (Ok (record { packet = record { session = field 0 10 bs; first = first; count = count; messages = messagesAt bs 20 first (carried count) }; rest = take (length bs - end) (drop end bs) })) (packetOf bs)

@@ -1,6 +1,7 @@
 -- The packet at the front of some bytes: session 10, first number 8, count 2, then blocks, each a length of 2 and a message.
+use mathlib.Core.Path.{_≡_}
 use mathlib.Core.List.{List, [], _∷_, _++_}
-use mathlib.Core.Bool.{cond}
+use mathlib.Core.Bool.{Bool, false, cond, _||_}
 use Prim.Native.Nat.{ℕ, zero, suc, _+_, _^_}
 use lib.Dec.{eqb, leb, ltb}
 use lib.ListN.{length, drop}
@@ -8,6 +9,7 @@ use Rattle.std.specs.declared.option.Option.{Option}
 use Rattle.std.specs.declared.option.Option.the-variants.{Some, None}
 use Rattle.std.specs.declared.result.Result.{Result}
 use Rattle.std.specs.declared.result.Result.the-variants.{Ok, Err}
+use Rattle.fault.specs.Causes.{causeOf}
 use Rattle.fault.specs.declared.Fault.{Fault}
 use Rattle.fault.specs.declared.Fault.the-variants.{ShortPacket, BlockPastEnd, BlockPastLimit, NumberTooLarge}
 use Rattle.wire.specs.Bytes.{field, value}
@@ -96,3 +98,12 @@ packetOf bs = unless (packetFault bs) (record { packet = contentsOf bs; rest = d
 abbrev pub followedBy : List ℕ → Result Taken Fault → Result Taken Fault
 followedBy more (Ok t) = Ok (record { packet = t .packet; rest = t .rest ++ more })
 followedBy more (Err f) = Err f
+
+-- bytes that follow may cure a packet under 20 bytes, and a block that passes the end of the bytes
+abbrev pub curable : Fault → Bool
+curable f = eqb (causeOf f .number) 1 || eqb (causeOf f .number) 2
+
+-- an answer lasts unless it is a fault that more bytes may cure
+abbrev pub Lasts : Result Taken Fault → Type 0
+Lasts (Ok t) = Unit {0}
+Lasts (Err f) = curable f ≡ false

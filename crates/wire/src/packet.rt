@@ -6,7 +6,7 @@ ghost use lib.ListN.{length};
 ghost use Rattle.std.specs.Results.{Cases};
 ghost use Rattle.std.specs.declared.option.Option.the-variants.{Some as Just, None as Nothing};
 ghost use Rattle.wire.specs.Bytes.{value};
-ghost use Rattle.wire.specs.Packets.{carried, firstOf, blockAt, blockFault, firstFault, packetOf, followedBy};
+ghost use Rattle.wire.specs.Packets.{carried, firstOf, blockAt, blockFault, firstFault, packetOf, followedBy, curable, Lasts};
 ghost use Rattle.wire.specs.Written.{Exactly};
 ghost use Rattle.wire.specs.Blocks.{contents, taken, toCome, Step, blockOf, found};
 use crate::bytes::u16_at;
@@ -17,6 +17,10 @@ const HEADER: usize = 20;
 
 // No block ends past this offset.
 const LIMIT: usize = 1472;
+
+// With so many bytes at hand, what is read at their front does not change with the bytes that follow: a block's length
+// field begins at the limit at the latest.
+pub const LOOKAHEAD: usize = LIMIT + 2;
 
 // The count that ends a session; it carries no blocks.
 const END_OF_SESSION: u16 = 65_535;
@@ -62,12 +66,11 @@ fn first_in(bytes: &[u8]) -> u64
     ])
 }
 
-// So many bytes at the front of a stream tell all of its first packet: what follows them changes no answer.
-pub fn lookahead() -> usize
-    ensures value { λ r. ⌜ r ≡ 1474 ⌝ }
-    ensures enough { λ r. ⌜ ((bs more : List ℕ) → r ≤ length bs → packetOf (bs ++ more) ≡ followedBy more (packetOf bs)) ⌝ }
+// Whether the bytes that follow may cure the fault of a packet.
+pub fn needs_more(fault: Fault) -> bool
+    ensures { λ r. ⌜ r ≡ curable fault ⌝ }
 {
-    LIMIT + 2
+    matches!(fault.number(), 1 | 2)
 }
 
 // How many blocks a count stands for.
@@ -171,6 +174,8 @@ impl<'a> Packet<'a> {
     // Takes one packet from the front of the bytes, and hands back the rest.
     pub fn read(bytes: &'a [u8]) -> Result<(Packet<'a>, &'a [u8]), Fault>
         ensures answer { λ r. ⌜ taken contents (λ rest. now rest) r ≡ packetOf (now (bytes .entry)) ⌝ }
+        ensures lasting { λ _. ⌜ ((more : List ℕ) → Lasts (packetOf (now (bytes .entry))) → packetOf (now (bytes .entry) ++ more) ≡ followedBy more (packetOf (now (bytes .entry)))) ⌝ }
+        ensures enough { λ _. ⌜ (1474 ≤ length (now (bytes .entry)) → Lasts (packetOf (now (bytes .entry)))) ⌝ }
         ensures exactly { λ r. ⌜ Exactly (now (bytes .entry)) (taken contents (λ rest. now rest) r) ⌝ }
         ensures shorter { λ r. ⌜ Cases r (λ t. length (now (t .1)) + 20 ≤ length (now (bytes .entry))) (λ _. Unit {0}) ⌝ }
     {

@@ -1,5 +1,5 @@
 use native.Mathlib.Omega.{arith}
-use mathlib.Core.Path.{_≡_}
+use mathlib.Core.Path.{_≡_, refl}
 use Prim.Native.Nat.{_-_, _≤_}
 use lib.ListN.{length}
 use Rattle.std.specs.Of.Vec.{vec-items}
@@ -12,4 +12,4 @@ returns c =
     let xs = vec-items (w .bytes) in
     let within : w .start ≤ length xs = omega (arith, w .bytes .ok .0, w .within) in
     let left : c .len .result - w .start ≡ length xs - w .start = omega (arith, w .bytes .ok .0, c .len .ensures) in
-    rw (c .min .ensures) (drop-at-most xs (w .start) (c .args .n) (c .len .result - w .start) left within)
+    record { rest = rw (c .min .ensures) (drop-at-most xs (w .start) (c .args .n) (c .len .result - w .start) left within); same = refl }

@@ -11,4 +11,4 @@ returns c =
     let w = c .args .self .now in
     let xs = vec-items (w .bytes) in
     let within : w .start ≤ length xs = omega (arith, w .bytes .ok .0, w .within) in
-    record { items = drop-appended _ xs _ _ (w .start) within (c .extend-from-slice .ensures .items); start = refl }
+    record { items = drop-appended _ xs _ _ (w .start) within (c .extend-from-slice .ensures .items); same = refl }

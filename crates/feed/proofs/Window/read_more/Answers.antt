@@ -7,4 +7,4 @@ use Rattle.feed.proofs.Window.read_more.Needs as need
 pub returns : need.returns
 returns g c =
     let a = c .in-Continue-append .ensures tt in
-    record { kept = (_, a .items); more = ap length (a .items) ∙ simp length-append (search needs); start = a .start }
+    record { kept = (_, a .items); more = ap length (a .items) ∙ simp length-append (search needs); same = a .same }
