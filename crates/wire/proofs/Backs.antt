@@ -1,9 +1,8 @@
 -- A packet is read back from how it is laid out.
 use mathlib.Core.Path.{_≡_, refl, sym, _∙_, ap}
-use mathlib.Core.Bool.{cond}
 use mathlib.Core.List.{List, [], _∷_, _++_}
-use Prim.Native.Nat.{ℕ, zero, suc, _+_, _-_, _*_, _/_, _%_, _^_, _<_, _≤_}
-use lib.ListN.{length, take, drop, getD}
+use Prim.Native.Nat.{ℕ, zero, suc, _+_, _/_, _%_, _^_, _<_, _≤_}
+use lib.ListN.{length, drop, getD}
 use native.Mathlib.Omega.{arith}
 use native.Mathlib.Nat.{div-add-mod', div-lt-iff-lt-mul, pow-suc, add-zero, zero-add}
 use native.Mathlib.Numerals.{add-one}
@@ -12,7 +11,7 @@ use Rattle.std.proofs.shelf.Ways.{tells}
 use Rattle.std.specs.declared.option.Option.the-variants.{None}
 use Rattle.wire.specs.Bytes.{field, value}
 use Rattle.std.specs.declared.result.Result.the-variants.{Ok}
-use Rattle.wire.specs.Packets.{Numbered, carried, firstOf, countOf, blocksOf, blockAt, blockFault, firstFault, messageAt, messagesFrom, packetFault, packetOf}
+use Rattle.wire.specs.Packets.{carried, firstOf, countOf, blocksOf, blockAt, blockFault, firstFault, messagesFrom, packetOf}
 use Rattle.wire.specs.Written.{bytesOf, blocksBytes, packetBytes, numberedFrom, Fits}
 use Rattle.wire.proofs.Walks.{no-fault}
 

@@ -1,22 +1,20 @@
 -- Bytes that follow change no answer, once 1,474 are at hand.
-use mathlib.Core.Path.{_≡_, refl, _∙_}
+use mathlib.Core.Path.{_≡_, refl}
 use mathlib.Core.Bool.{Bool, true, false, cond}
-use mathlib.Core.List.{List, [], _∷_, _++_}
-use Prim.Native.Nat.{ℕ, zero, suc, _+_, _-_, _*_, _^_, _<_, _≤_}
+use mathlib.Core.List.{List, _++_}
+use Prim.Native.Nat.{ℕ, zero, suc, _+_, _^_, _<_, _≤_}
 use mathlib.Core.Logic.{inl, inr}
 use lib.Dec.{leb, ltb}
-use lib.ListN.{length, take, drop, getD}
+use lib.ListN.{length, drop}
 use native.Mathlib.Omega.{arith}
-use native.Mathlib.Numerals.{add-one}
 use Rattle.std.proofs.shelf.Lists.{getD-append-left, length-append, drop-append-le, take-append-le, length-drop}
-use Rattle.std.proofs.shelf.Tests.{le-ltb, lt-ltb, lt-leb, cases-lt}
-use Rattle.std.proofs.shelf.Ways.{tells}
+use Rattle.std.proofs.shelf.Tests.{le-ltb, lt-ltb, cases-lt}
 use Rattle.std.specs.declared.option.Option.{Option}
 use Rattle.std.specs.declared.option.Option.the-variants.{Some, None}
 use Rattle.fault.specs.declared.Fault.{Fault}
-use Rattle.fault.specs.declared.Fault.the-variants.{ShortPacket, BlockPastEnd, BlockPastLimit, NumberTooLarge}
+use Rattle.fault.specs.declared.Fault.the-variants.{BlockPastEnd, BlockPastLimit}
 use Rattle.wire.specs.Bytes.{field, value}
-use Rattle.wire.specs.Packets.{Taken, firstOf, countOf, blocksOf, blockAt, blockFault, orElse, firstFault, messageAt, messagesFrom, contentsOf, packetFault, unless, packetOf, followedBy, curable, Lasts}
+use Rattle.wire.specs.Packets.{Taken, firstOf, blocksOf, blockAt, blockFault, firstFault, messageAt, messagesFrom, contentsOf, packetFault, unless, packetOf, followedBy, curable, Lasts}
 use Rattle.wire.proofs.Walks.{both-none, none-before, ends-within, ends-by, lies-by, faultless}
 
 none-up-to : (bs : List ℕ) (k m : ℕ) → k ≤ m → firstFault bs m ≡ None → firstFault bs k ≡ None

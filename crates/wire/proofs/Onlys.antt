@@ -1,23 +1,20 @@
 -- What is read as a packet is laid out as one.
 use mathlib.Core.Path.{_≡_, refl, sym, _∙_, ap, subst}
-use mathlib.Core.List.{List, [], _∷_, _++_}
-use Prim.Native.Nat.{ℕ, zero, suc, _+_, _-_, _*_, _/_, _%_, _^_, _<_, _≤_}
-use lib.ListN.{length, take, drop, getD}
+use mathlib.Core.List.{List, _∷_, _++_}
+use Prim.Native.Nat.{ℕ, zero, suc, _+_, _<_, _≤_}
+use lib.ListN.{length, drop, getD}
 use native.Mathlib.Omega.{arith}
-use native.Mathlib.Nat.{add-zero, zero-add}
-use native.Mathlib.Numerals.{add-one}
 use lib.Arith.{digits-div, digits-mod}
 use lib.Seq.{take-suc}
 use Rattle.std.proofs.shelf.Lists.{append-assoc, length-append, take-append-drop, drop-drop, getD-drop, length-drop, length-take-le}
-use Rattle.std.proofs.shelf.Ways.{tells}
 use Rattle.std.specs.declared.option.Option.{Option}
 use Rattle.std.specs.declared.option.Option.the-variants.{Some, None}
 use Rattle.std.specs.declared.result.Result.{Result}
 use Rattle.std.specs.declared.result.Result.the-variants.{Ok}
 use Rattle.fault.specs.declared.Fault.{Fault}
 use Rattle.wire.specs.Bytes.{field, value}
-use Rattle.wire.specs.Packets.{Taken, firstOf, countOf, blocksOf, blockAt, blockFault, firstFault, messageAt, messagesFrom, contentsOf, packetFault, unless, packetOf}
-use Rattle.wire.specs.Written.{bytesOf, blocksBytes, packetBytes, numberedFrom, plain, LaidOut, Exactly}
+use Rattle.wire.specs.Packets.{Taken, firstOf, countOf, blocksOf, blockAt, firstFault, messageAt, messagesFrom, contentsOf, packetFault, unless, packetOf}
+use Rattle.wire.specs.Written.{bytesOf, blocksBytes, numberedFrom, plain, LaidOut, Exactly}
 use Rattle.wire.proofs.Backs.{four-parts, reads-back}
 use Rattle.wire.proofs.Walks.{none-before, ends-within, ends-by, lies-by, faultless}
 

@@ -1,5 +1,5 @@
 -- How a walk over the blocks of a packet goes on.
-use mathlib.Core.Path.{_≡_, refl, ap}
+use mathlib.Core.Path.{_≡_, refl}
 use mathlib.Core.Bool.{cond}
 use mathlib.Core.List.{List, [], _∷_}
 use Prim.Native.Nat.{ℕ, zero, suc, _+_, _-_, _^_, _<_, _≤_}
@@ -7,7 +7,7 @@ use lib.Dec.{leb, ltb}
 use lib.ListN.{length, take, drop}
 use native.Mathlib.Omega.{arith}
 use native.Mathlib.Nat.{zero-add, suc-add}
-use mathlib.Core.Logic.{_⊎_, inl, inr}
+use mathlib.Core.Logic.{inl, inr}
 use native.Mathlib.Numerals.{add-one, sub-one}
 use Rattle.std.proofs.shelf.Lists.{take-rest, length-drop}
 use Rattle.std.proofs.shelf.Tests.{le-ltb, lt-ltb, lt-leb, cases-lt}
@@ -19,7 +19,7 @@ use Rattle.fault.specs.declared.Fault.the-variants.{ShortPacket, NumberTooLarge
 use Rattle.wire.specs.Bytes.{field, value}
 use Rattle.std.specs.declared.result.Result.{Result}
 use Rattle.std.specs.declared.result.Result.the-variants.{Ok}
-use Rattle.wire.specs.Packets.{Taken, firstOf, countOf, carried, blocksOf, packetFault, packetOf, blockAt, blockFault, orElse, firstFault, messageAt, messagesFrom}
+use Rattle.wire.specs.Packets.{Taken, firstOf, countOf, carried, blocksOf, packetFault, packetOf, blockAt, blockFault, orElse, firstFault, messagesFrom}
 use Rattle.wire.specs.Blocks.{unlessFault, messagesAt}
 
 -- one block more, after blocks that have no fault
