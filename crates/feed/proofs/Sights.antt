@@ -14,7 +14,7 @@ use Rattle.std.specs.declared.option.Option.{Option}
 use Rattle.std.specs.declared.option.Option.the-variants.{Some, None}
 use Rattle.std.specs.declared.result.Result.the-variants.{Ok}
 use Rattle.fault.specs.declared.Fault.{Fault}
-use Rattle.wire.specs.Packets.{Taken, blockAt, blocksOf, contentsOf, packetFault, unless, packetOf, followedBy, Lasts}
+use Rattle.wire.specs.Packets.{Taken, blockAt, blocksOf, takenOf, packetFault, unless, packetOf, followedBy, Lasts}
 use Rattle.feed.specs.Windows.{whole, over, sightOf, Right}
 
 -- the rest of the bytes, by how many they are
@@ -29,7 +29,7 @@ drop-back bs e =
 rest-back : (bs : List ℕ) (t : Taken) → packetOf bs ≡ Ok t → drop (length bs - length (t .rest)) bs ≡ t .rest
 rest-back bs t r = go (packetFault bs) r
   where
-    go : (o : Option Fault) → unless o (record { packet = contentsOf bs; rest = drop (blockAt bs (blocksOf bs)) bs }) ≡ Ok t → drop (length bs - length (t .rest)) bs ≡ t .rest
+    go : (o : Option Fault) → unless o (takenOf bs) ≡ Ok t → drop (length bs - length (t .rest)) bs ≡ t .rest
     go None e = let s : t .rest ≡ drop (blockAt bs (blocksOf bs)) bs = cc in rw s (drop-back bs (blockAt bs (blocksOf bs)))
     go (Some f) e = absurd (let z : _≡_ {A = ℕ} 0 1 = cc in omega arith)
 

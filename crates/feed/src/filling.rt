@@ -77,15 +77,16 @@ impl Window {
     pub fn fill<R: Read>(&mut self, input: &mut R) -> io::Result<()>
         ensures kept { λ _. ⌜ Extended (pendingIn (now (self .entry))) (pendingIn (now (self .exit))) ⌝ }
         ensures more { λ r. ⌜ Cases r (λ _. (now (self .exit) .ended ≡ false → length (pendingIn (now (self .entry))) < 1474 → length (pendingIn (now (self .entry))) < length (pendingIn (now (self .exit))))) (λ _. now (self .exit) .ended ≡ now (self .entry) .ended) ⌝ }
-        ensures over { λ _. ⌜ (now (self .entry) .ended ≡ true → (now (self .exit) .ended ≡ true) × (pendingIn (now (self .exit)) ≡ pendingIn (now (self .entry)))) ⌝ }
+        ensures over { λ _. ⌜ (now (self .entry) .ended ≡ true → now (self .exit) .ended ≡ true) ⌝ }
+        ensures ends { λ _. ⌜ (now (self .exit) .ended ≡ true → pendingIn (now (self .exit)) ≡ pendingIn (now (self .entry))) ⌝ }
+        ensures full { λ _. ⌜ (1474 ≤ length (pendingIn (now (self .entry))) → (now (self .exit) .ended ≡ now (self .entry) .ended) × (pendingIn (now (self .exit)) ≡ pendingIn (now (self .entry)))) ⌝ }
     {
         if self.ended || self.pending().len() >= LOOKAHEAD {
             return Ok(());
         }
         self.compact()?;
-        if self.read_more(input)? == 0 {
-            self.ended = true;
-        }
+        let added = self.read_more(input)?;
+        self.ended = added == 0;
         Ok(())
     }
 

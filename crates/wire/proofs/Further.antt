@@ -14,7 +14,7 @@ use Rattle.std.specs.declared.option.Option.the-variants.{Some, None}
 use Rattle.fault.specs.declared.Fault.{Fault}
 use Rattle.fault.specs.declared.Fault.the-variants.{BlockPastEnd, BlockPastLimit}
 use Rattle.wire.specs.Bytes.{field, value}
-use Rattle.wire.specs.Packets.{Taken, firstOf, blocksOf, blockAt, blockFault, firstFault, messageAt, messagesFrom, contentsOf, packetFault, unless, packetOf, followedBy, curable, Lasts}
+use Rattle.wire.specs.Packets.{Taken, firstOf, blocksOf, blockAt, blockFault, firstFault, messageAt, messagesFrom, takenOf, packetFault, unless, packetOf, followedBy, curable, Lasts}
 use Rattle.wire.proofs.Walks.{both-none, none-before, ends-within, ends-by, lies-by, faultless}
 
 none-up-to : (bs : List ℕ) (k m : ℕ) → k ≤ m → firstFault bs m ≡ None → firstFault bs k ≡ None
@@ -139,7 +139,7 @@ lasts-fault (Some f) t h = h
 -- an answer that lasts is the answer whatever follows
 pub lasting : (bs more : List ℕ) → Lasts (packetOf bs) → packetOf (bs ++ more) ≡ followedBy more (packetOf bs)
 lasting bs more h =
-    let l = lasts-fault (packetFault bs) (record { packet = contentsOf bs; rest = drop (blockAt bs (blocksOf bs)) bs }) h in
+    let l = lasts-fault (packetFault bs) (takenOf bs) h in
     same-answer bs more (header-there bs l) (packetFault bs) refl l
 
 module _ (bs : List ℕ) (long : 1474 ≤ length bs) where
@@ -170,4 +170,4 @@ fault-lasts (Some f) t h = h
 
 -- with 1,474 bytes at hand every answer lasts
 pub long-lasts : (bs : List ℕ) → 1474 ≤ length bs → Lasts (packetOf bs)
-long-lasts bs long = fault-lasts (packetFault bs) (record { packet = contentsOf bs; rest = drop (blockAt bs (blocksOf bs)) bs }) (long-fault bs long (leb (2 ^ 64) (firstOf bs + blocksOf bs)) refl)
+long-lasts bs long = fault-lasts (packetFault bs) (takenOf bs) (long-fault bs long (leb (2 ^ 64) (firstOf bs + blocksOf bs)) refl)

@@ -13,7 +13,7 @@ use Rattle.std.specs.declared.result.Result.{Result}
 use Rattle.std.specs.declared.result.Result.the-variants.{Ok}
 use Rattle.fault.specs.declared.Fault.{Fault}
 use Rattle.wire.specs.Bytes.{field, value}
-use Rattle.wire.specs.Packets.{Taken, firstOf, countOf, blocksOf, blockAt, firstFault, messageAt, messagesFrom, contentsOf, packetFault, unless, packetOf}
+use Rattle.wire.specs.Packets.{Taken, firstOf, countOf, blocksOf, blockAt, firstFault, messageAt, messagesFrom, takenOf, packetFault, unless, packetOf}
 use Rattle.wire.specs.Written.{bytesOf, blocksBytes, numberedFrom, plain, LaidOut, Exactly}
 use Rattle.wire.proofs.Backs.{four-parts, reads-back}
 use Rattle.wire.proofs.Walks.{none-before, ends-within, ends-by, lies-by, faultless}
@@ -59,7 +59,7 @@ module _ (bs : List ℕ) (small : (i : ℕ) → getD bs i 0 < 256) where
       let joined : two ++ (m′ ++ (B ++ R)) ≡ (two ++ (m′ ++ B)) ++ R = sym (append-assoc two (m′ ++ B) R ∙ ap (λ t. two ++ t) (append-assoc m′ B R)) in
       parted ∙ (joined ∙ ap (λ t. (t ++ (m′ ++ B)) ++ R) sized)
 
-  laid-out : packetFault bs ≡ None → LaidOut bs (record { packet = contentsOf bs; rest = drop (blockAt bs (blocksOf bs)) bs })
+  laid-out : packetFault bs ≡ None → LaidOut bs (takenOf bs)
   laid-out h =
       let f = faultless bs h in
       let n = blocksOf bs in
@@ -88,8 +88,8 @@ module _ (bs : List ℕ) (small : (i : ℕ) → getD bs i 0 < 256) where
 reads-only : (bs : List ℕ) (t : Taken) → ((i : ℕ) → getD bs i 0 < 256) → packetOf bs ≡ Ok t → LaidOut bs t
 reads-only bs t small e = go (packetFault bs) refl e
   where
-    go : (o : Option Fault) → packetFault bs ≡ o → unless o (record { packet = contentsOf bs; rest = drop (blockAt bs (blocksOf bs)) bs }) ≡ Ok t → LaidOut bs t
-    go None h r = let same : record { packet = contentsOf bs; rest = drop (blockAt bs (blocksOf bs)) bs } ≡ t = cc in subst (λ x. LaidOut bs x) same (laid-out bs small h)
+    go : (o : Option Fault) → packetFault bs ≡ o → unless o (takenOf bs) ≡ Ok t → LaidOut bs t
+    go None h r = let same : takenOf bs ≡ t = cc in subst (λ x. LaidOut bs x) same (laid-out bs small h)
     go (Some f) h r = absurd (let z : _≡_ {A = ℕ} 0 1 = cc in omega arith)
 
 pub exactly : (bs : List ℕ) (answer : Result Taken Fault) → ((i : ℕ) → getD bs i 0 < 256) → answer ≡ packetOf bs → Exactly bs answer

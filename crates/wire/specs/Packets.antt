@@ -90,9 +90,13 @@ abbrev pub unless : Option Fault → Taken → Result Taken Fault
 unless None t = Ok t
 unless (Some f) t = Err f
 
+-- the packet and the rest, where nothing is wrong
+abbrev pub takenOf : List ℕ → Taken
+takenOf bs = record { packet = contentsOf bs; rest = drop (blockAt bs (blocksOf bs)) bs }
+
 -- what reading one packet from the front of the bytes answers
 abbrev pub packetOf : List ℕ → Result Taken Fault
-packetOf bs = unless (packetFault bs) (record { packet = contentsOf bs; rest = drop (blockAt bs (blocksOf bs)) bs })
+packetOf bs = unless (packetFault bs) (takenOf bs)
 
 -- the same answer where more bytes follow
 abbrev pub followedBy : List ℕ → Result Taken Fault → Result Taken Fault

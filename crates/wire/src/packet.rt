@@ -42,7 +42,7 @@ pub struct Packet<'a> {
 }
 
 // A walk over the blocks of a packet: the next one is at the offset `at` and has the number `number`, if any is left.
-#[derive(Clone, Copy)]
+#[derive(Drop)]
 pub struct Blocks<'a> {
     bytes: &'a [u8],
     at: usize,
