@@ -1,0 +1,150 @@
+-- What adding and removing answer, and that they keep a book sound.
+use mathlib.Core.Path.{_≡_, refl, sym, ap, _∙_}
+use mathlib.Core.List.{List, [], _∷_, _++_}
+use mathlib.Core.Bool.{Bool, true, false, not, cond}
+use mathlib.Core.Logic.{⊎-elim}
+use Prim.Native.Nat.{ℕ, suc, _+_, _≤_, _<_}
+use native.Mathlib.Omega.{arith}
+use lib.Dec.{eqb, ltb}
+use lib.ListN.{length, getD, take, drop}
+use Rattle.std.specs.Orderings.{Decides}
+use Rattle.std.specs.shelf.Lists.{All, removed}
+use Rattle.std.specs.declared.result.Result.{Result}
+use Rattle.std.specs.declared.result.Result.the-variants.{Ok, Err}
+use Rattle.std.proofs.shelf.Lists.{getD-append-left, getD-push, length-push}
+use Rattle.std.proofs.shelf.Edits.{length-removed, getD-removed-below, getD-removed-above}
+use Rattle.std.proofs.shelf.Elements.{all-push, all-append, all-take, all-drop}
+use Rattle.std.proofs.shelf.Tests.{cases-bool, cases-lt, cases-order, both-ways, cond-true, cond-false, ltb-false, le-ltb, eqb-false, eq-eqb, ne-eqb, not-from-true, not-from-false, or-parts}
+use Rattle.std.proofs.shelf.Ways.{decides-eqb}
+use Rattle.fault.specs.declared.Fault.{Fault}
+use Rattle.fault.specs.declared.Fault.the-variants.{AboveTop, BookFull, NotAboveLast, NotFound}
+use Rattle.book.specs.declared.bid.Bid.{Bid}
+use Rattle.book.specs.Books.{Ascend, Sound, some, lastNumber, addAnswer, removeAnswer, without}
+use Rattle.book.proofs.Filters.{kept-all, kept-others}
+use Rattle.book.proofs.Passes.{some-decides, none-passes, stale, stale-at}
+
+pub sound-none : (capacity : ℕ) → Sound [] capacity 19999999
+sound-none capacity = record { ascend = λ i j d l m. absurd (omega arith); limits = tt; count = omega arith; highest = omega arith }
+
+-- ---- adding
+module _ (bids : List Bid) (capacity top : ℕ) (bid : Bid) where
+  pub add-stale : bid .limit ≤ top → stale (bid .number) bids ≡ true → Err (NotAboveLast (lastNumber bids)) ≡ addAnswer bids capacity top bid
+  add-stale low e = sym (cond-false _ _ _ (le-ltb top (bid .limit) low) ∙ cond-true _ _ _ e)
+
+  third : bid .limit ≤ top → stale (bid .number) bids ≡ false → cond (eqb (length bids) capacity) (Err (BookFull capacity)) (Ok tt) ≡ addAnswer bids capacity top bid
+  third low e = sym (cond-false _ _ _ (le-ltb top (bid .limit) low) ∙ cond-false _ _ _ e)
+
+  pub add-full : bid .limit ≤ top → stale (bid .number) bids ≡ false → length bids ≡ capacity → Err (BookFull capacity) ≡ addAnswer bids capacity top bid
+  add-full low e full = sym (cond-true _ _ _ (eq-eqb (length bids) capacity full)) ∙ third low e
+
+  pub add-fits : bid .limit ≤ top → stale (bid .number) bids ≡ false → length bids < capacity → Ok tt ≡ addAnswer bids capacity top bid
+  add-fits low e few = sym (cond-false _ _ _ (ne-eqb (length bids) capacity (λ full. omega arith))) ∙ third low e
+
+  -- what an accepted bid shows
+  pub record Accepted : Type 0 where
+    pub low : bid .limit ≤ top
+    pub above : (k : ℕ) (d : Bid) → k < length bids → getD bids k d .number < bid .number
+    pub room : length bids ≡ capacity → ⊥
+
+  refused : (f : Fault) → _≡_ {A = Result (Unit {0}) Fault} (Err f) (Ok tt) → ⊥
+  refused f e = let z : _≡_ {A = ℕ} 0 1 = cc in omega arith
+
+  above-from : stale (bid .number) bids ≡ false → (k : ℕ) (d : Bid) → k < length bids → getD bids k d .number < bid .number
+  above-from f k d l = ⊎-elim (λ lt. lt)
+      (λ ge. absurd (both-ways _ f (stale-at (bid .number) bids k d l ge)))
+      (cases-lt (getD bids k d .number) (bid .number))
+
+  pub accepted : addAnswer bids capacity top bid ≡ Ok tt → Accepted
+  accepted e = ⊎-elim
+      (λ t. absurd (refused (AboveTop top) (sym (cond-true _ _ _ t) ∙ e)))
+      (λ f. let e1 = sym (cond-false _ _ _ f) ∙ e in ⊎-elim
+        (λ t. absurd (refused (NotAboveLast (lastNumber bids)) (sym (cond-true _ _ _ t) ∙ e1)))
+        (λ g. let e2 = sym (cond-false _ _ _ g) ∙ e1 in ⊎-elim
+          (λ t. absurd (refused (BookFull capacity) (sym (cond-true _ _ _ t) ∙ e2)))
+          (λ h. record { low = ltb-false top (bid .limit) f; above = above-from g; room = eqb-false (length bids) capacity h })
+          (cases-bool (eqb (length bids) capacity)))
+        (cases-bool (stale (bid .number) bids)))
+      (cases-bool (ltb top (bid .limit)))
+
+ascend-push : (bids : List Bid) (bid : Bid) → Ascend bids → ((k : ℕ) (d : Bid) → k < length bids → getD bids k d .number < bid .number) → Ascend (bids ++ bid ∷ [])
+ascend-push bids bid up above i j d l m =
+    let n = length-push bids bid in
+    let number : Bid → ℕ = λ b. b .number in
+    let il : i < length bids = omega arith in
+    let left = ap number (getD-append-left bids (bid ∷ []) d i il) in
+    ⊎-elim
+      (λ jl. let right = ap number (getD-append-left bids (bid ∷ []) d j jl) in omega (arith, up i j d l jl))
+      (λ jg. let right = ap number (getD-push bids bid d j (omega arith)) in omega (arith, above i d il))
+      (cases-lt j (length bids))
+
+pub sound-push : (bids : List Bid) (capacity top : ℕ) (bid : Bid) → Sound bids capacity top → addAnswer bids capacity top bid ≡ Ok tt → Sound (bids ++ bid ∷ []) capacity top
+sound-push bids capacity top bid s e =
+    let a = accepted bids capacity top bid e in
+    let n = length-push bids bid in
+    let ne = a .room in
+    let le = s .count in
+    record {
+      ascend = ascend-push bids bid (s .ascend) (a .above);
+      limits = all-push (λ b. b .limit ≤ top) bids bid (s .limits) (a .low);
+      count = omega arith;
+      highest = s .highest;
+    }
+
+-- ---- removing
+abbrev pub numbered : ℕ → List Bid → Bool
+numbered n bids = some (λ b. eqb (b .number) n) bids
+
+decides-number : (n : ℕ) (b : Bid) → Decides (eqb (b .number) n) (b .number ≡ n)
+decides-number n b = decides-eqb (b .number) n
+
+pub none-numbered : (bids : List Bid) (n : ℕ) → ((k : ℕ) (d : Bid) → k < length bids → getD bids k d .number ≡ n → ⊥) → numbered n bids ≡ false
+none-numbered bids n h = none-passes (λ b. eqb (b .number) n) (λ b. b .number ≡ n) (decides-number n) bids h
+
+others : (n : ℕ) (bids : List Bid) → numbered n bids ≡ false → All (λ b. not (eqb (b .number) n) ≡ true) bids
+others n [] h = tt
+others n (b ∷ bids) h = (not-from-false _ (or-parts _ _ h .0), others n bids (or-parts _ _ h .1))
+
+pub remove-none : (bids : List Bid) (n : ℕ) → numbered n bids ≡ false → (Err (NotFound n) ≡ removeAnswer bids n) × (bids ≡ without n bids)
+remove-none bids n e = (sym (cond-true _ _ _ (not-from-false _ e)), sym (kept-all (λ b. not (eqb (b .number) n)) bids (others n bids e)))
+
+-- the bid with the number n stands at a place
+module _ (bids : List Bid) (n at : ℕ) (l : at < length bids) (here : (d : Bid) → getD bids at d .number ≡ n) where
+  pub remove-found : Ok tt ≡ removeAnswer bids n
+  remove-found = sym (cond-false _ _ _ (not-from-true _ (some-decides (λ b. eqb (b .number) n) (λ b. b .number ≡ n) (decides-number n) bids .1 (at, l, here))))
+
+  elsewhere : Ascend bids → (k : ℕ) (d : Bid) → k < length bids → (k ≡ at → ⊥) → getD bids k d .number ≡ n → ⊥
+  elsewhere up k d m ne e = ⊎-elim (λ q. ne q)
+      (⊎-elim (λ lt. omega (arith, up k at d lt l, here d)) (λ gt. omega (arith, up at k d gt m, here d)))
+      (cases-order k at)
+
+  pub removed-found : Ascend bids → removed bids at ≡ without n bids
+  removed-found up = sym (kept-others (λ b. not (eqb (b .number) n)) bids at l
+      (λ d. not-from-true _ (eq-eqb _ n (here d)))
+      (λ k d m ne. not-from-false _ (ne-eqb _ n (elsewhere up k d m ne))))
+
+ascend-removed : (bids : List Bid) (at : ℕ) → at < length bids → Ascend bids → Ascend (removed bids at)
+ascend-removed bids at here up i j d l m =
+    let n = length-removed bids at here in
+    let number : Bid → ℕ = λ b. b .number in
+    ⊎-elim
+      (λ jl. let p = ap number (getD-removed-below bids at d i (omega arith) here) in let q = ap number (getD-removed-below bids at d j jl here) in omega (arith, up i j d l (omega arith)))
+      (λ jg. let q = ap number (getD-removed-above bids at d j jg here) in
+        ⊎-elim
+          (λ il. let p = ap number (getD-removed-below bids at d i il here) in omega (arith, up i (j + 1) d (omega arith) (omega arith)))
+          (λ ig. let p = ap number (getD-removed-above bids at d i ig here) in omega (arith, up (i + 1) (j + 1) d (omega arith) (omega arith)))
+          (cases-lt i at))
+      (cases-lt j at)
+
+all-removed : (P : Bid → Type 0) (bids : List Bid) (at : ℕ) → All P bids → All P (removed bids at)
+all-removed P bids at h = all-append P (take at bids) (drop (suc at) bids) (all-take P at bids h) (all-drop P (suc at) bids h)
+
+pub sound-removed : (bids : List Bid) (capacity top at : ℕ) → at < length bids → Sound bids capacity top → Sound (removed bids at) capacity top
+sound-removed bids capacity top at here s =
+    let n = length-removed bids at here in
+    let le = s .count in
+    record {
+      ascend = ascend-removed bids at here (s .ascend);
+      limits = all-removed (λ b. b .limit ≤ top) bids at (s .limits);
+      count = omega arith;
+      highest = s .highest;
+    }

@@ -1,0 +1,3 @@
+pub mod Filters
+pub mod Passes
+pub mod Keeps

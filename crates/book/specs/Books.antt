@@ -1,0 +1,77 @@
+-- What a book means, over its live bids in order of number, its capacity and its top.
+use mathlib.Core.List.{List, [], _∷_, _++_, map}
+use mathlib.Core.Bool.{Bool, true, false, not, cond, _||_}
+use Prim.Native.Nat.{ℕ, _≤_, _<_, min, max}
+use lib.Dec.{eqb, ltb, leb}
+use lib.ListN.{length, getD}
+use Rattle.std.specs.shelf.Lists.{All, folded, sumBy, kept-by}
+use Rattle.std.specs.shelf.Text.{sameBytes}
+use Rattle.std.specs.declared.option.Option.{Option}
+use Rattle.std.specs.declared.option.Option.the-variants.{Some, None}
+use Rattle.std.specs.declared.result.Result.{Result}
+use Rattle.std.specs.declared.result.Result.the-variants.{Ok, Err}
+use Rattle.fault.specs.declared.Fault.{Fault}
+use Rattle.fault.specs.declared.Fault.the-variants.{AboveTop, BookFull, NotAboveLast, NotFound}
+use Rattle.fault.specs.Checks.{checked}
+use Rattle.book.specs.declared.bid.Bid.{Bid}
+
+-- numbers ascend strictly from place to place
+abbrev pub Ascend : List Bid → Type 0
+Ascend bids = (i j : ℕ) (d : Bid) → i < j → j < length bids → getD bids i d .number < getD bids j d .number
+
+-- what holds of every book at all times
+pub record Sound (bids : List Bid) (capacity top : ℕ) : Type 0 where
+  pub ascend : Ascend bids
+  pub limits : All (λ b. b .limit ≤ top) bids
+  pub count : length bids ≤ capacity
+  pub highest : top ≤ 19999999
+
+-- whether some live bid passes a test
+abbrev pub some : (Bid → Bool) → List Bid → Bool
+some test [] = false
+some test (b ∷ bids) = test b || some test bids
+
+-- the number of the last live bid, 0 where there is none
+abbrev pub lastNumber : List Bid → ℕ
+lastNumber bids = folded (λ _ b. b .number) 0 bids
+
+-- what adding a bid answers: limit above the top; number not above every live number; count equal to the capacity
+abbrev pub addAnswer : List Bid → ℕ → ℕ → Bid → Result (Unit {0}) Fault
+addAnswer bids capacity top bid = checked (
+    (ltb top (bid .limit), AboveTop top) ∷
+    (some (λ b. leb (bid .number) (b .number)) bids, NotAboveLast (lastNumber bids)) ∷
+    (eqb (length bids) capacity, BookFull capacity) ∷ []) tt
+
+-- the live bids after that answer: one more, the last, or as they were
+abbrev pub added : List Bid → Bid → Result (Unit {0}) Fault → List Bid
+added bids bid (Ok _) = bids ++ bid ∷ []
+added bids bid (Err _) = bids
+
+-- what removing a number answers
+abbrev pub removeAnswer : List Bid → ℕ → Result (Unit {0}) Fault
+removeAnswer bids n = checked ((not (some (λ b. eqb (b .number) n) bids), NotFound n) ∷ []) tt
+
+-- the live bids with other numbers, in their order
+abbrev pub without : ℕ → List Bid → List Bid
+without n bids = kept-by (λ b. not (eqb (b .number) n)) bids
+
+-- the least and the greatest of some numbers
+abbrev pub least : List ℕ → Option ℕ
+least [] = None
+least (n ∷ ns) = Some (folded min n ns)
+
+abbrev pub greatest : List ℕ → Option ℕ
+greatest [] = None
+greatest (n ∷ ns) = Some (folded max n ns)
+
+-- the lowest number of a live bid with the token t
+abbrev pub numberWith : List ℕ → List Bid → Option ℕ
+numberWith t bids = least (map (λ b. b .number) (kept-by (λ b. sameBytes (b .token) t) bids))
+
+-- the units of all live bids with a limit at or above p
+abbrev pub unitsFrom : ℕ → List Bid → ℕ
+unitsFrom p bids = sumBy (λ b. b .units) (kept-by (λ b. leb p (b .limit)) bids)
+
+-- the highest limit of a live bid at or below p
+abbrev pub limitTo : ℕ → List Bid → Option ℕ
+limitTo p bids = greatest (map (λ b. b .limit) (kept-by (λ b. leb (b .limit) p) bids))

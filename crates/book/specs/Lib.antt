@@ -1,0 +1,4 @@
+pub mod Bids
+pub mod Books
+pub mod Rankings
+pub mod Once

@@ -1,0 +1,65 @@
+// What a book is. The contracts speak of its meaning, so that code above is proved once for every book.
+ghost use mathlib.Core.Path.{_≡_};
+ghost use mathlib.Core.List.{List};
+ghost use Prim.Native.Nat.{ℕ};
+ghost use lib.ListN.{length};
+ghost use Rattle.std.specs.shelf.Maps.{nth};
+ghost use Rattle.book.specs.declared.bid.Bid.{Bid};
+ghost use Rattle.book.specs.Bids.{bidOf};
+ghost use Rattle.book.specs.Books.{Sound, addAnswer, added, removeAnswer, without, numberWith, unitsFrom, limitTo};
+use crate::bid::Bid;
+use crate::bid::Found;
+use fault::Fault;
+
+pub trait Book {
+    // The live bids, in order of number.
+    ghost bids: { Self → List Bid };
+
+    // How many bids it can hold.
+    ghost capacity: { Self → ℕ };
+
+    // The highest limit that it takes.
+    ghost top: { Self → ℕ };
+
+    // What holds of every book at all times.
+    ghost sound: { (s : Self) → Sound (bids s) (capacity s) (top s) };
+
+    fn add(&mut self, bid: Bid) -> Result<(), Fault>
+        ensures answer { λ r. ⌜ r ≡ addAnswer (bids (now (self .entry))) (capacity (now (self .entry))) (top (now (self .entry))) bid ⌝ }
+        ensures after { λ r. ⌜ bids (now (self .exit)) ≡ added (bids (now (self .entry))) bid r ⌝ }
+        ensures capacity { λ _. ⌜ capacity (now (self .exit)) ≡ capacity (now (self .entry)) ⌝ }
+        ensures top { λ _. ⌜ top (now (self .exit)) ≡ top (now (self .entry)) ⌝ };
+
+    fn remove(&mut self, number: u64) -> Result<(), Fault>
+        ensures answer { λ r. ⌜ r ≡ removeAnswer (bids (now (self .entry))) number ⌝ }
+        ensures after { λ _. ⌜ bids (now (self .exit)) ≡ without number (bids (now (self .entry))) ⌝ }
+        ensures capacity { λ _. ⌜ capacity (now (self .exit)) ≡ capacity (now (self .entry)) ⌝ }
+        ensures top { λ _. ⌜ top (now (self .exit)) ≡ top (now (self .entry)) ⌝ };
+
+    fn count(&self) -> usize
+        ensures { λ r. ⌜ r ≡ length (bids (now (self .entry))) ⌝ };
+
+    fn capacity(&self) -> usize
+        ensures { λ r. ⌜ r ≡ capacity (now (self .entry)) ⌝ };
+
+    fn top(&self) -> u32
+        ensures { λ r. ⌜ r ≡ top (now (self .entry)) ⌝ };
+
+    // The k-th live bid, from 0.
+    fn kth(&self, k: usize) -> Found
+        ensures { λ r. ⌜ bidOf r ≡ nth (bids (now (self .entry))) k ⌝ };
+
+    // The lowest number of a live bid with that token.
+    fn find_token(&self, token: &[u8; 14]) -> Option<u64>
+        ensures { λ r. ⌜ r ≡ numberWith (now (token .entry)) (bids (now (self .entry))) ⌝ };
+}
+
+// A book that also answers by price.
+pub trait PricedBook: Book {
+    fn units_at_or_above(&self, price: u32) -> u64
+        ensures { λ r. ⌜ r ≡ unitsFrom price (Self·Book .bids (now (self .entry))) ⌝ };
+
+    // The highest limit of a live bid at or below the price.
+    fn limit_at_or_below(&self, price: u32) -> Option<u32>
+        ensures { λ r. ⌜ r ≡ limitTo price (Self·Book .bids (now (self .entry))) ⌝ };
+}
