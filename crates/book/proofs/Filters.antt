@@ -1,19 +1,19 @@
 -- Filters of a list: sums and extremes of what passes a test, and a filter that drops one place.
 use mathlib.Core.Path.{_≡_, refl, sym, ap, _∙_}
-use mathlib.Core.List.{List, [], _∷_, _++_, map}
+use mathlib.Core.List.{List, [], _∷_, map}
 use mathlib.Core.Bool.{Bool, true, false, cond}
 use Prim.Native.Nat.{ℕ, zero, suc, _+_, _≤_, _<_, min, max}
 use native.Mathlib.Nat.{zero-add}
 use native.Mathlib.Omega.{arith}
 use lib.Dec.{ltb}
-use lib.ListN.{length, getD, take, drop}
+use lib.ListN.{length, getD}
 use Rattle.std.specs.shelf.Lists.{All, folded, sumBy, kept-by, removed}
 use Rattle.std.specs.declared.option.Option.{Option}
 use Rattle.std.specs.declared.option.Option.the-variants.{Some, None}
 use Rattle.std.proofs.shelf.Elements.{all-map, all-kept-by, all-from-getD}
 use Rattle.std.proofs.shelf.Sums.{sumBy-cons}
 use Rattle.std.proofs.shelf.Tests.{cond-true, cond-false, lt-ltb}
-use Rattle.book.specs.Books.{least, greatest}
+use Rattle.book.specs.Books.{greatest}
 
 -- ---- sums
 sum-kept-at : {X : Type 0} (f : X → ℕ) (x : X) (ys : List X) (n : ℕ) (t : Bool) → sumBy f ys ≡ n → sumBy f (cond t (x ∷ ys) ys) ≡ cond t (f x) 0 + n

@@ -1,7 +1,7 @@
 -- What adding and removing answer, and that they keep a book sound.
-use mathlib.Core.Path.{_≡_, refl, sym, ap, _∙_}
+use mathlib.Core.Path.{_≡_, sym, ap, subst, _∙_}
 use mathlib.Core.List.{List, [], _∷_, _++_}
-use mathlib.Core.Bool.{Bool, true, false, not, cond}
+use mathlib.Core.Bool.{Bool, true, false, not}
 use mathlib.Core.Logic.{⊎-elim}
 use Prim.Native.Nat.{ℕ, suc, _+_, _≤_, _<_}
 use native.Mathlib.Omega.{arith}
@@ -14,7 +14,7 @@ use Rattle.std.specs.declared.result.Result.the-variants.{Ok, Err}
 use Rattle.std.proofs.shelf.Lists.{getD-append-left, getD-push, length-push}
 use Rattle.std.proofs.shelf.Edits.{length-removed, getD-removed-below, getD-removed-above}
 use Rattle.std.proofs.shelf.Elements.{all-push, all-append, all-take, all-drop}
-use Rattle.std.proofs.shelf.Tests.{cases-bool, cases-lt, cases-order, both-ways, cond-true, cond-false, ltb-false, le-ltb, eqb-false, eq-eqb, ne-eqb, not-from-true, not-from-false, or-parts}
+use Rattle.std.proofs.shelf.Tests.{cases-bool, cases-lt, cases-order, both-ways, cond-true, cond-false, ltb-false, eqb-false, eq-eqb, ne-eqb, not-from-true, not-from-false, or-parts}
 use Rattle.std.proofs.shelf.Ways.{decides-eqb}
 use Rattle.fault.specs.declared.Fault.{Fault}
 use Rattle.fault.specs.declared.Fault.the-variants.{AboveTop, BookFull, NotAboveLast, NotFound}
@@ -28,18 +28,6 @@ sound-none capacity = record { ascend = λ i j d l m. absurd (omega arith); limi
 
 -- ---- adding
 module _ (bids : List Bid) (capacity top : ℕ) (bid : Bid) where
-  pub add-stale : bid .limit ≤ top → stale (bid .number) bids ≡ true → Err (NotAboveLast (lastNumber bids)) ≡ addAnswer bids capacity top bid
-  add-stale low e = sym (cond-false _ _ _ (le-ltb top (bid .limit) low) ∙ cond-true _ _ _ e)
-
-  third : bid .limit ≤ top → stale (bid .number) bids ≡ false → cond (eqb (length bids) capacity) (Err (BookFull capacity)) (Ok tt) ≡ addAnswer bids capacity top bid
-  third low e = sym (cond-false _ _ _ (le-ltb top (bid .limit) low) ∙ cond-false _ _ _ e)
-
-  pub add-full : bid .limit ≤ top → stale (bid .number) bids ≡ false → length bids ≡ capacity → Err (BookFull capacity) ≡ addAnswer bids capacity top bid
-  add-full low e full = sym (cond-true _ _ _ (eq-eqb (length bids) capacity full)) ∙ third low e
-
-  pub add-fits : bid .limit ≤ top → stale (bid .number) bids ≡ false → length bids < capacity → Ok tt ≡ addAnswer bids capacity top bid
-  add-fits low e few = sym (cond-false _ _ _ (ne-eqb (length bids) capacity (λ full. omega arith))) ∙ third low e
-
   -- what an accepted bid shows
   pub record Accepted : Type 0 where
     pub low : bid .limit ≤ top
@@ -58,12 +46,12 @@ module _ (bids : List Bid) (capacity top : ℕ) (bid : Bid) where
   accepted e = ⊎-elim
       (λ t. absurd (refused (AboveTop top) (sym (cond-true _ _ _ t) ∙ e)))
       (λ f. let e1 = sym (cond-false _ _ _ f) ∙ e in ⊎-elim
-        (λ t. absurd (refused (NotAboveLast (lastNumber bids)) (sym (cond-true _ _ _ t) ∙ e1)))
-        (λ g. let e2 = sym (cond-false _ _ _ g) ∙ e1 in ⊎-elim
-          (λ t. absurd (refused (BookFull capacity) (sym (cond-true _ _ _ t) ∙ e2)))
-          (λ h. record { low = ltb-false top (bid .limit) f; above = above-from g; room = eqb-false (length bids) capacity h })
-          (cases-bool (eqb (length bids) capacity)))
-        (cases-bool (stale (bid .number) bids)))
+      (λ t. absurd (refused (NotAboveLast (lastNumber bids)) (sym (cond-true _ _ _ t) ∙ e1)))
+      (λ g. let e2 = sym (cond-false _ _ _ g) ∙ e1 in ⊎-elim
+      (λ t. absurd (refused (BookFull capacity) (sym (cond-true _ _ _ t) ∙ e2)))
+      (λ h. record { low = ltb-false top (bid .limit) f; above = above-from g; room = eqb-false (length bids) capacity h })
+      (cases-bool (eqb (length bids) capacity)))
+      (cases-bool (stale (bid .number) bids)))
       (cases-bool (ltb top (bid .limit)))
 
 ascend-push : (bids : List Bid) (bid : Bid) → Ascend bids → ((k : ℕ) (d : Bid) → k < length bids → getD bids k d .number < bid .number) → Ascend (bids ++ bid ∷ [])
@@ -73,9 +61,9 @@ ascend-push bids bid up above i j d l m =
     let il : i < length bids = omega arith in
     let left = ap number (getD-append-left bids (bid ∷ []) d i il) in
     ⊎-elim
-      (λ jl. let right = ap number (getD-append-left bids (bid ∷ []) d j jl) in omega (arith, up i j d l jl))
-      (λ jg. let right = ap number (getD-push bids bid d j (omega arith)) in omega (arith, above i d il))
-      (cases-lt j (length bids))
+    (λ jl. let right = ap number (getD-append-left bids (bid ∷ []) d j jl) in omega (arith, up i j d l jl))
+    (λ jg. let right = ap number (getD-push bids bid d j (omega arith)) in omega (arith, above i d il))
+    (cases-lt j (length bids))
 
 pub sound-push : (bids : List Bid) (capacity top : ℕ) (bid : Bid) → Sound bids capacity top → addAnswer bids capacity top bid ≡ Ok tt → Sound (bids ++ bid ∷ []) capacity top
 sound-push bids capacity top bid s e =
@@ -127,13 +115,13 @@ ascend-removed bids at here up i j d l m =
     let n = length-removed bids at here in
     let number : Bid → ℕ = λ b. b .number in
     ⊎-elim
-      (λ jl. let p = ap number (getD-removed-below bids at d i (omega arith) here) in let q = ap number (getD-removed-below bids at d j jl here) in omega (arith, up i j d l (omega arith)))
-      (λ jg. let q = ap number (getD-removed-above bids at d j jg here) in
-        ⊎-elim
-          (λ il. let p = ap number (getD-removed-below bids at d i il here) in omega (arith, up i (j + 1) d (omega arith) (omega arith)))
-          (λ ig. let p = ap number (getD-removed-above bids at d i ig here) in omega (arith, up (i + 1) (j + 1) d (omega arith) (omega arith)))
-          (cases-lt i at))
-      (cases-lt j at)
+    (λ jl. let p = ap number (getD-removed-below bids at d i (omega arith) here) in let q = ap number (getD-removed-below bids at d j jl here) in omega (arith, up i j d l (omega arith)))
+    (λ jg. let q = ap number (getD-removed-above bids at d j jg here) in
+    ⊎-elim
+    (λ il. let p = ap number (getD-removed-below bids at d i il here) in omega (arith, up i (j + 1) d (omega arith) (omega arith)))
+    (λ ig. let p = ap number (getD-removed-above bids at d i ig here) in omega (arith, up (i + 1) (j + 1) d (omega arith) (omega arith)))
+    (cases-lt i at))
+    (cases-lt j at)
 
 all-removed : (P : Bid → Type 0) (bids : List Bid) (at : ℕ) → All P bids → All P (removed bids at)
 all-removed P bids at h = all-append P (take at bids) (drop (suc at) bids) (all-take P at bids h) (all-drop P (suc at) bids h)
@@ -148,3 +136,26 @@ sound-removed bids capacity top at here s =
       count = omega arith;
       highest = s .highest;
     }
+
+-- ---- the same of a run xs that shows the bids
+module _ (xs bids ys : List Bid) (capacity top : ℕ) (shown : xs ≡ bids) (s : Sound xs capacity top) where
+  pub fits-after : (bid : Bid) (r : Result (Unit {0}) Fault) → r ≡ addAnswer xs capacity top bid → r ≡ Ok tt → length bids < capacity
+  fits-after bid r e ok =
+      let room = accepted xs capacity top bid (sym e ∙ ok) .room in
+      omega (arith, s .count, ap length shown)
+
+  pub sound-after-add : (bid : Bid) (r : Result (Unit {0}) Fault) → r ≡ addAnswer xs capacity top bid → r ≡ Ok tt → ys ≡ bids ++ bid ∷ [] → Sound ys capacity top
+  sound-after-add bid r e ok after = subst (λ (zs : List Bid). Sound zs capacity top) (ap (λ (zs : List Bid). zs ++ bid ∷ []) shown ∙ sym after) (sound-push xs capacity top bid s (sym e ∙ ok))
+
+  pub none-removed : (n : ℕ) → numbered n xs ≡ false → (Err (NotFound n) ≡ removeAnswer bids n) × (bids ≡ without n bids)
+  none-removed n e = remove-none bids n (ap (numbered n) (sym shown) ∙ e)
+
+  module _ (n at : ℕ) (l : at < length xs) (after : ys ≡ removed bids at) where
+    pub sound-after-remove : Sound ys capacity top
+    sound-after-remove = subst (λ (zs : List Bid). Sound zs capacity top) (ap (λ (zs : List Bid). removed zs at) shown ∙ sym after) (sound-removed xs capacity top at l s)
+
+    pub one-removed : ((d : Bid) → getD xs at d .number ≡ n) → (Ok tt ≡ removeAnswer bids n) × (ys ≡ without n bids)
+    one-removed here = (
+      remove-found xs n at l here ∙ ap (λ (zs : List Bid). removeAnswer zs n) shown,
+      after ∙ ap (λ (zs : List Bid). removed zs at) (sym shown) ∙ removed-found xs n at l here (s .ascend) ∙ ap (without n) shown,
+    )

@@ -1,3 +1,4 @@
 pub mod Filters
 pub mod Passes
 pub mod Keeps
+pub mod Means

@@ -1,21 +1,20 @@
 -- Steps of the passes over a run of bids: x is read at the place i.
-use mathlib.Core.Path.{_≡_, refl, sym, ap, subst, _∙_}
+use mathlib.Core.Path.{_≡_, refl, sym, ap, _∙_}
 use mathlib.Core.List.{List, [], _∷_, map}
-use mathlib.Core.Bool.{Bool, true, false, cond, _&&_}
+use mathlib.Core.Bool.{Bool, true, false, cond, not, _&&_}
 use mathlib.Core.Logic.{⊎-elim}
-use Prim.Native.Nat.{ℕ, zero, suc, _+_, _-_, _≤_, _<_, min, max}
+use Prim.Native.Nat.{ℕ, zero, suc, _+_, _-_, _≤_, _<_, max}
 use native.Mathlib.Omega.{arith}
-use lib.Dec.{eqb, leb}
+use lib.Dec.{eqb, leb, ltb}
 use lib.ListN.{length, getD, take, drop}
 use Rattle.std.specs.Orderings.{Decides}
 use Rattle.std.specs.shelf.Lists.{All, At, folded, sumBy, kept-by}
 use Rattle.std.specs.shelf.Text.{sameBytes}
-use Rattle.std.specs.declared.option.Option.{Option}
-use Rattle.std.specs.declared.option.Option.the-variants.{Some, None}
+use Rattle.std.specs.declared.option.Option.the-variants.{Some}
 use Rattle.std.proofs.shelf.Elements.{all-from-getD, all-kept-by, all-map, at-read}
 use Rattle.std.proofs.shelf.Lists.{getD-default, getD-drop, getD-read, at-drop-more, length-drop, nil-from-length, take-all}
 use Rattle.std.proofs.shelf.Sums.{sumBy-more, folded-more}
-use Rattle.std.proofs.shelf.Tests.{cases-bool, cases-lt, cond-true, cond-false, leb-true, le-leb}
+use Rattle.std.proofs.shelf.Tests.{cases-bool, cases-lt, cond-true, cond-false, leb-true, le-leb, lt-ltb, le-ltb, not-from-true, not-from-false}
 use Rattle.std.proofs.shelf.Ways.{decides-by-or}
 use Rattle.book.specs.declared.bid.Bid.{Bid}
 use Rattle.book.specs.Books.{Ascend, some, lastNumber, least, numberWith, unitsFrom, limitTo}
@@ -62,11 +61,11 @@ module _ (t : List ℕ) (xs : List Bid) (i : ℕ) (x : Bid) (l : i < length xs) 
   token-here up e =
       let rest = drop (i + 1) xs in
       let later : All (λ b. x .number ≤ b .number) rest = all-from-getD (λ b. x .number ≤ b .number) rest x (λ k h.
-            let q : i + 1 + k < length xs = omega (arith, length-drop (i + 1) xs) in
-            let u = up i (i + 1 + k) x (omega arith) q in
-            let at = ap (λ (b : Bid). b .number) (getD-drop (i + 1) xs k x) in
-            let me = ap (λ (b : Bid). b .number) is in
-            omega arith) in
+      let q : i + 1 + k < length xs = omega (arith, length-drop (i + 1) xs) in
+      let u = up i (i + 1 + k) x (omega arith) q in
+      let at = ap (λ (b : Bid). b .number) (getD-drop (i + 1) xs k x) in
+      let me = ap (λ (b : Bid). b .number) is in
+      omega arith) in
       from-here
       ∙ ap (λ ys. least (map (λ b. b .number) ys)) (cond-true _ _ _ e)
       ∙ ap Some (folded-min (x .number) (map (λ b. b .number) (kept-by (λ b. sameBytes (b .token) t) rest)) (all-map (λ n. x .number ≤ n) (λ b. b .number) (kept-by (λ b. sameBytes (b .token) t) rest) (all-kept-by (λ b. sameBytes (b .token) t) (λ b. x .number ≤ b .number) rest later)))
@@ -138,7 +137,16 @@ stale-at n xs k d l h = stale-decides n xs .1 (k, l, at-read xs (λ b. n ≤ b .
 pub not-stale : (n : ℕ) (xs : List Bid) (d : Bid) → Ascend xs → last xs d .number < n → stale n xs ≡ false
 not-stale n xs d up h = none-passes (λ b. leb n (b .number)) (λ b. n ≤ b .number) (λ b. (leb-true n (b .number), le-leb n (b .number))) xs
     (λ k e l q. let m : length xs - 1 < length xs = omega arith in
-      omega (arith, lower-below xs up (length xs - 1) n (last xs d) m (getD-default xs (length xs - 1) d (last xs d) m) h k e (omega arith)))
+    omega (arith, lower-below xs up (length xs - 1) n (last xs d) m (getD-default xs (length xs - 1) d (last xs d) m) h k e (omega arith)))
 
-pub empty-not-stale : (n : ℕ) (xs : List Bid) → length xs ≤ 0 → stale n xs ≡ false
-empty-not-stale n xs e = ap (stale n) (nil-from-length xs (omega arith))
+pub above-none : (n : ℕ) (xs : List Bid) → length xs ≡ 0 → true ≡ not (stale n xs)
+above-none n xs e = ap (λ ys. not (stale n ys)) (sym (nil-from-length xs e))
+
+pub above-last : (n : ℕ) (xs : List Bid) → Ascend xs → (length xs ≡ 0 → ⊥) → ltb (lastNumber xs) n ≡ not (stale n xs)
+above-last n [] up some0 = absurd (some0 refl)
+above-last n (x ∷ xs) up some0 =
+    let e = last-is (x ∷ xs) x (omega arith) in
+    ap (λ m. ltb m n) e ∙ ⊎-elim
+    (λ lt. lt-ltb _ n lt ∙ sym (not-from-false _ (not-stale n (x ∷ xs) x up lt)))
+    (λ ge. le-ltb _ n ge ∙ sym (not-from-true _ (stale-at n (x ∷ xs) (length (x ∷ xs) - 1) x (omega arith) ge)))
+    (cases-lt (last (x ∷ xs) x .number) n)

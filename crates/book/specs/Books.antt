@@ -1,6 +1,6 @@
 -- What a book means, over its live bids in order of number, its capacity and its top.
 use mathlib.Core.List.{List, [], _∷_, _++_, map}
-use mathlib.Core.Bool.{Bool, true, false, not, cond, _||_}
+use mathlib.Core.Bool.{Bool, false, not, _||_}
 use Prim.Native.Nat.{ℕ, _≤_, _<_, min, max}
 use lib.Dec.{eqb, ltb, leb}
 use lib.ListN.{length, getD}

@@ -1,4 +1,5 @@
 pub mod Bids
 pub mod Books
-pub mod Rankings
+pub mod Laws
 pub mod Once
+pub mod Rankings

@@ -1,5 +1,5 @@
 -- That a book is sound holds in one way at most, so that it comes out of a ghost field.
-use mathlib.Core.Path.{_≡_, refl}
+use mathlib.Core.Path.{refl}
 use mathlib.Core.List.{List, [], _∷_}
 use mathlib.Core.Logic.{∥∥₁-elim}
 use Prim.Native.Nat.{ℕ, _≤_}

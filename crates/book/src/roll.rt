@@ -88,10 +88,9 @@ pub impl Book for Roll as RollBook {
     }
 
     fn kth(&self, k: usize) -> Found {
-        if k < self.bids.len() {
-            Found::some(self.bids[k])
-        } else {
-            Found::none()
+        match self.live().get(k) {
+            Some(bid) => Found::some(*bid),
+            None => Found::none(),
         }
     }
 

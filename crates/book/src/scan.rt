@@ -1,13 +1,13 @@
 // Passes over a run of bids.
 ghost use mathlib.Core.Path.{_≡_};
-ghost use mathlib.Core.Bool.{false};
-ghost use Prim.Native.Nat.{ℕ, _<_, _≤_};
-ghost use lib.Dec.{eqb};
+ghost use mathlib.Core.Bool.{false, not};
+ghost use Prim.Native.Nat.{_<_, _≤_};
+ghost use lib.Dec.{eqb, leb};
 ghost use lib.ListN.{length, getD};
 ghost use Rattle.std.specs.Options.{Cases as BySome};
 ghost use Rattle.std.specs.shelf.Text.{sameBytes};
 ghost use Rattle.book.specs.declared.bid.Bid.{Bid as TheBid};
-ghost use Rattle.book.specs.Books.{Ascend, Sound, some, addAnswer, numberWith, unitsFrom, limitTo};
+ghost use Rattle.book.specs.Books.{Ascend, Sound, some, lastNumber, addAnswer, numberWith, unitsFrom, limitTo};
 use crate::bid::Bid;
 use fault::Fault;
 
@@ -85,27 +85,40 @@ pub(crate) fn place(bids: &[Bid], number: u64) -> Option<usize>
     None
 }
 
+// The number of the last bid, 0 where there is none.
+fn last_number(bids: &[Bid]) -> u64
+    ensures { λ r. ⌜ r ≡ lastNumber (now (bids .entry)) ⌝ }
+{
+    let count = bids.len();
+    if count == 0 {
+        0
+    } else {
+        bids[count - 1].number
+    }
+}
+
+// Whether a number is above every bid's: above the last one's, where there is one.
+fn is_above_all(number: u64, bids: &[Bid]) -> bool
+    requires { ⌜ Ascend (now bids) ⌝ }
+    ensures { λ r. ⌜ r ≡ not (some (λ b. leb number (b .number)) (now (bids .entry))) ⌝ }
+{
+    bids.is_empty() || last_number(bids) < number
+}
+
 // Whether a bid may be added.
-pub(crate) fn check_add(
-    bids: &[Bid],
-    capacity: usize,
-    top: u32,
-    bid: &Bid,
-) -> Result<(), Fault>
+pub(crate) fn check_add(bids: &[Bid], capacity: usize, top: u32, bid: &Bid) -> Result<(), Fault>
     requires { ⌜ Sound (now bids) capacity top ⌝ }
     ensures { λ r. ⌜ r ≡ addAnswer (now (bids .entry)) capacity top (now (bid .entry)) ⌝ }
 {
     if top < bid.limit {
         return Err(Fault::AboveTop { top });
     }
-    let count = bids.len();
-    if count > 0 {
-        let last = bids[count - 1].number;
-        if bid.number <= last {
-            return Err(Fault::NotAboveLast { last });
-        }
+    if !is_above_all(bid.number, bids) {
+        return Err(Fault::NotAboveLast {
+            last: last_number(bids),
+        });
     }
-    if capacity <= count {
+    if capacity <= bids.len() {
         return Err(Fault::BookFull { capacity });
     }
     Ok(())

@@ -1,4 +1,4 @@
-// What a book is. The contracts speak of its meaning, so that code above is proved once for every book.
+// What a book is. Contracts speak of its meaning alone, so that code above it is proved once for every book.
 ghost use mathlib.Core.Path.{_≡_};
 ghost use mathlib.Core.List.{List};
 ghost use Prim.Native.Nat.{ℕ};
@@ -11,25 +11,30 @@ use crate::bid::Bid;
 use crate::bid::Found;
 use fault::Fault;
 
+// A book means its live bids in order of number, a capacity and a top; the last two never change. A refusal and a question
+// change nothing.
 pub trait Book {
     // The live bids, in order of number.
     ghost bids: { Self → List Bid };
 
-    // How many bids it can hold.
+    // How many bids it holds at the most.
     ghost capacity: { Self → ℕ };
 
     // The highest limit that it takes.
     ghost top: { Self → ℕ };
 
-    // What holds of every book at all times.
+    // Numbers ascend strictly, limits are within the top, the count is within the capacity, and the top is a price or 0.
     ghost sound: { (s : Self) → Sound (bids s) (capacity s) (top s) };
 
+    // Puts a bid last. Refused, in this order: 16 with the top, where its limit is above it; 18 with the last number, where its
+    // number is not above every live number; 17 with the capacity, exactly where the count equals it.
     fn add(&mut self, bid: Bid) -> Result<(), Fault>
         ensures answer { λ r. ⌜ r ≡ addAnswer (bids (now (self .entry))) (capacity (now (self .entry))) (top (now (self .entry))) bid ⌝ }
         ensures after { λ r. ⌜ bids (now (self .exit)) ≡ added (bids (now (self .entry))) bid r ⌝ }
         ensures capacity { λ _. ⌜ capacity (now (self .exit)) ≡ capacity (now (self .entry)) ⌝ }
         ensures top { λ _. ⌜ top (now (self .exit)) ≡ top (now (self .entry)) ⌝ };
 
+    // Takes out the bid with that number. Refused by 19 with the number where there is none.
     fn remove(&mut self, number: u64) -> Result<(), Fault>
         ensures answer { λ r. ⌜ r ≡ removeAnswer (bids (now (self .entry))) number ⌝ }
         ensures after { λ _. ⌜ bids (now (self .exit)) ≡ without number (bids (now (self .entry))) ⌝ }
@@ -45,21 +50,22 @@ pub trait Book {
     fn top(&self) -> u32
         ensures { λ r. ⌜ r ≡ top (now (self .entry)) ⌝ };
 
-    // The k-th live bid, from 0.
+    // The k-th live bid, k from 0, or none.
     fn kth(&self, k: usize) -> Found
         ensures { λ r. ⌜ bidOf r ≡ nth (bids (now (self .entry))) k ⌝ };
 
-    // The lowest number of a live bid with that token.
+    // The lowest number of a live bid with that token, or none.
     fn find_token(&self, token: &[u8; 14]) -> Option<u64>
         ensures { λ r. ⌜ r ≡ numberWith (now (token .entry)) (bids (now (self .entry))) ⌝ };
 }
 
-// A book that also answers by price.
+// A book that also answers by price, for every price.
 pub trait PricedBook: Book {
+    // The units of all live bids with a limit at or above the price.
     fn units_at_or_above(&self, price: u32) -> u64
         ensures { λ r. ⌜ r ≡ unitsFrom price (Self·Book .bids (now (self .entry))) ⌝ };
 
-    // The highest limit of a live bid at or below the price.
+    // The highest limit of a live bid at or below the price, or none.
     fn limit_at_or_below(&self, price: u32) -> Option<u32>
         ensures { λ r. ⌜ r ≡ limitTo price (Self·Book .bids (now (self .entry))) ⌝ };
 }

@@ -1,5 +1,5 @@
 use mathlib.Core.Path.{_≡_, sym, ap, _∙_}
-use mathlib.Core.Bool.{true, false, _&&_}
+use mathlib.Core.Bool.{_&&_}
 use Prim.Native.Nat.{_<_, _+_}
 use native.Mathlib.Numerals.{add-one}
 use native.Mathlib.Omega.{arith}
@@ -18,7 +18,7 @@ loop-i-again c =
     let la : i < length a = omega arith in
     let lb : i < length b = omega arith in
     let more : sameBytes (take (i + 1) a) (take (i + 1) b) ≡ (c .loop-i .same && eqb (getD a i 0) (getD b i 0)) =
-          rw add-one (same-more a b i la lb ∙ ap (λ t. t && eqb (getD a i 0) (getD b i 0)) (sym (c .loop-i .inv))) in
+    rw add-one (same-more a b i la lb ∙ ap (λ t. t && eqb (getD a i 0) (getD b i 0)) (sym (c .loop-i .inv))) in
     sym more
 
 pub returns : need.returns

@@ -1,6 +1,6 @@
 use mathlib.Core.Path.{_≡_}
 use Prim.Native.Nat.{_≤_, _*_}
-use lib.ListN.{length, take}
+use lib.ListN.{take}
 use Rattle.book.specs.Books.{unitsFrom}
 use Rattle.book.proofs.scan.units_from.Given as given
 

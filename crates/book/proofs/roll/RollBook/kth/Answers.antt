@@ -1,11 +1,16 @@
-use mathlib.Core.Path.{sym, _∙_}
-use native.Mathlib.Omega.{arith}
-use Rattle.std.specs.Of.Vec.{vec-items}
+use mathlib.Core.Path.{refl, sym, ap, _∙_}
+use mathlib.Core.List.{List}
+use lib.ListN.{length}
+use Rattle.std.specs.shelf.Maps.{nth}
 use Rattle.std.proofs.shelf.Maps.{nth-read, nth-past}
+use Rattle.book.specs.declared.bid.Bid.{Bid}
 use Rattle.book.proofs.roll.RollBook.kth.Needs as need
 
-pub returns-then-k-len : need.returns-then-k-len
-returns-then-k-len c = c .some .ensures ∙ sym (nth-read (vec-items (c .args .self .now .bids)) _ (c .args .k) _ (c .args .self .now .bids .ok .0) (omega arith) (c .index .ensures))
+pub returns-in-Some : need.returns-in-Some
+returns-in-Some c =
+    let xs = c .live .result .now in
+    let found = c .in-Some .ensures tt .finds in
+    c .some .ensures ∙ sym (nth-read xs (length xs) (c .args .k) (c .in-Some .bid .now) refl (found .3 .0) (found .1)) ∙ ap (λ (ys : List Bid). nth ys (c .args .k)) (c .live .ensures .value)
 
-pub returns-else-k-len : need.returns-else-k-len
-returns-else-k-len c = c .none .ensures ∙ sym (nth-past (vec-items (c .args .self .now .bids)) (c .args .k) (omega arith))
+pub returns-in-None : need.returns-in-None
+returns-in-None c = c .none .ensures ∙ sym (nth-past (c .live .result .now) (c .args .k) (c .in-None .ensures tt .finds .3)) ∙ ap (λ (ys : List Bid). nth ys (c .args .k)) (c .live .ensures .value)
