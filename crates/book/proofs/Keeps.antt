@@ -1,27 +1,27 @@
 -- What adding and removing answer, and that they keep a book sound.
 use mathlib.Core.Path.{_≡_, sym, ap, subst, _∙_}
 use mathlib.Core.List.{List, [], _∷_, _++_}
-use mathlib.Core.Bool.{Bool, true, false, not}
+use mathlib.Core.Bool.{Bool, false, not}
 use mathlib.Core.Logic.{⊎-elim}
 use Prim.Native.Nat.{ℕ, suc, _+_, _≤_, _<_}
 use native.Mathlib.Omega.{arith}
 use lib.Dec.{eqb, ltb}
 use lib.ListN.{length, getD, take, drop}
 use Rattle.std.specs.Orderings.{Decides}
-use Rattle.std.specs.shelf.Lists.{All, removed}
+use Rattle.std.specs.shelf.Lists.{All, kept-by, removed}
 use Rattle.std.specs.declared.result.Result.{Result}
 use Rattle.std.specs.declared.result.Result.the-variants.{Ok, Err}
 use Rattle.std.proofs.shelf.Lists.{getD-append-left, getD-push, length-push}
 use Rattle.std.proofs.shelf.Edits.{length-removed, getD-removed-below, getD-removed-above}
 use Rattle.std.proofs.shelf.Elements.{all-push, all-append, all-take, all-drop}
-use Rattle.std.proofs.shelf.Tests.{cases-bool, cases-lt, cases-order, both-ways, cond-true, cond-false, ltb-false, eqb-false, eq-eqb, ne-eqb, not-from-true, not-from-false, or-parts}
+use Rattle.std.proofs.shelf.Tests.{cases-bool, cases-lt, cases-order, both-ways, cond-true, cond-false, ltb-false, eqb-false, eq-eqb, ne-eqb, not-from-true, not-from-false}
 use Rattle.std.proofs.shelf.Ways.{decides-eqb}
 use Rattle.fault.specs.declared.Fault.{Fault}
 use Rattle.fault.specs.declared.Fault.the-variants.{AboveTop, BookFull, NotAboveLast, NotFound}
 use Rattle.book.specs.declared.bid.Bid.{Bid}
-use Rattle.book.specs.Books.{Ascend, Sound, some, lastNumber, addAnswer, removeAnswer, without}
-use Rattle.book.proofs.Filters.{kept-all, kept-others}
-use Rattle.book.proofs.Passes.{some-decides, none-passes, stale, stale-at}
+use Rattle.book.specs.Books.{Ascend, Sound, anyBid, lastNumber, addAnswer, removeAnswer}
+use Rattle.book.proofs.Filters.{kept-others}
+use Rattle.book.proofs.Passes.{any-decides, none-passes, stale, stale-at}
 
 pub sound-none : (capacity : ℕ) → Sound [] capacity 19999999
 sound-none capacity = record { ascend = λ i j d l m. absurd (omega arith); limits = tt; count = omega arith; highest = omega arith }
@@ -80,7 +80,7 @@ sound-push bids capacity top bid s e =
 
 -- ---- removing
 abbrev pub numbered : ℕ → List Bid → Bool
-numbered n bids = some (λ b. eqb (b .number) n) bids
+numbered n bids = anyBid (λ b. eqb (b .number) n) bids
 
 decides-number : (n : ℕ) (b : Bid) → Decides (eqb (b .number) n) (b .number ≡ n)
 decides-number n b = decides-eqb (b .number) n
@@ -88,17 +88,17 @@ decides-number n b = decides-eqb (b .number) n
 pub none-numbered : (bids : List Bid) (n : ℕ) → ((k : ℕ) (d : Bid) → k < length bids → getD bids k d .number ≡ n → ⊥) → numbered n bids ≡ false
 none-numbered bids n h = none-passes (λ b. eqb (b .number) n) (λ b. b .number ≡ n) (decides-number n) bids h
 
-others : (n : ℕ) (bids : List Bid) → numbered n bids ≡ false → All (λ b. not (eqb (b .number) n) ≡ true) bids
-others n [] h = tt
-others n (b ∷ bids) h = (not-from-false _ (or-parts _ _ h .0), others n bids (or-parts _ _ h .1))
+pub remove-none : (bids : List Bid) (n : ℕ) → numbered n bids ≡ false → Err (NotFound n) ≡ removeAnswer bids n
+remove-none bids n e = sym (cond-true _ _ _ (not-from-false _ e))
 
-pub remove-none : (bids : List Bid) (n : ℕ) → numbered n bids ≡ false → (Err (NotFound n) ≡ removeAnswer bids n) × (bids ≡ without n bids)
-remove-none bids n e = (sym (cond-true _ _ _ (not-from-false _ e)), sym (kept-all (λ b. not (eqb (b .number) n)) bids (others n bids e)))
+-- the live bids with other numbers
+abbrev pub without : ℕ → List Bid → List Bid
+without n bids = kept-by (λ b. not (eqb (b .number) n)) bids
 
 -- the bid with the number n stands at a place
 module _ (bids : List Bid) (n at : ℕ) (l : at < length bids) (here : (d : Bid) → getD bids at d .number ≡ n) where
   pub remove-found : Ok tt ≡ removeAnswer bids n
-  remove-found = sym (cond-false _ _ _ (not-from-true _ (some-decides (λ b. eqb (b .number) n) (λ b. b .number ≡ n) (decides-number n) bids .1 (at, l, here))))
+  remove-found = sym (cond-false _ _ _ (not-from-true _ (any-decides (λ b. eqb (b .number) n) (λ b. b .number ≡ n) (decides-number n) bids .1 (at, l, here))))
 
   elsewhere : Ascend bids → (k : ℕ) (d : Bid) → k < length bids → (k ≡ at → ⊥) → getD bids k d .number ≡ n → ⊥
   elsewhere up k d m ne e = ⊎-elim (λ q. ne q)
@@ -147,7 +147,7 @@ module _ (xs bids ys : List Bid) (capacity top : ℕ) (shown : xs ≡ bids) (s :
   pub sound-after-add : (bid : Bid) (r : Result (Unit {0}) Fault) → r ≡ addAnswer xs capacity top bid → r ≡ Ok tt → ys ≡ bids ++ bid ∷ [] → Sound ys capacity top
   sound-after-add bid r e ok after = subst (λ (zs : List Bid). Sound zs capacity top) (ap (λ (zs : List Bid). zs ++ bid ∷ []) shown ∙ sym after) (sound-push xs capacity top bid s (sym e ∙ ok))
 
-  pub none-removed : (n : ℕ) → numbered n xs ≡ false → (Err (NotFound n) ≡ removeAnswer bids n) × (bids ≡ without n bids)
+  pub none-removed : (n : ℕ) → numbered n xs ≡ false → Err (NotFound n) ≡ removeAnswer bids n
   none-removed n e = remove-none bids n (ap (numbered n) (sym shown) ∙ e)
 
   module _ (n at : ℕ) (l : at < length xs) (after : ys ≡ removed bids at) where

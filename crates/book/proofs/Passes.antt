@@ -17,7 +17,7 @@ use Rattle.std.proofs.shelf.Sums.{sumBy-more, folded-more}
 use Rattle.std.proofs.shelf.Tests.{cases-bool, cases-lt, cond-true, cond-false, leb-true, le-leb, lt-ltb, le-ltb, not-from-true, not-from-false}
 use Rattle.std.proofs.shelf.Ways.{decides-by-or}
 use Rattle.book.specs.declared.bid.Bid.{Bid}
-use Rattle.book.specs.Books.{Ascend, some, lastNumber, least, numberWith, unitsFrom, limitTo}
+use Rattle.book.specs.Books.{Ascend, anyBid, lastNumber, least, numberWith, unitsFrom, limitTo}
 use Rattle.book.proofs.Filters.{sum-kept, unless0, greatest-kept, folded-min}
 
 -- ---- units at or above a price
@@ -85,16 +85,16 @@ same-more (x ∷ a) [] i l m = absurd (omega arith)
 same-more (x ∷ a) (y ∷ b) zero l m = and-true (eqb x y)
 same-more (x ∷ a) (y ∷ b) (suc i) l m = ap (λ t. eqb x y && t) (same-more a b i (omega arith) (omega arith)) ∙ and-assoc (eqb x y) _ _
 
--- ---- whether some bid passes a test
-pub some-decides : (test : Bid → Bool) (P : Bid → Type 0) → ((b : Bid) → Decides (test b) (P b)) → (bids : List Bid) → Decides (some test bids) ((k : ℕ) × (k < length bids) × At P bids k)
-some-decides test P each bids = decides-by-or test P (some test) each refl (λ _ _. refl) bids
+-- ---- whether a bid passes a test
+pub any-decides : (test : Bid → Bool) (P : Bid → Type 0) → ((b : Bid) → Decides (test b) (P b)) → (bids : List Bid) → Decides (anyBid test bids) ((k : ℕ) × (k < length bids) × At P bids k)
+any-decides test P each bids = decides-by-or test P (anyBid test) each refl (λ _ _. refl) bids
 
-pub none-passes : (test : Bid → Bool) (P : Bid → Type 0) → ((b : Bid) → Decides (test b) (P b)) → (bids : List Bid) → ((k : ℕ) (d : Bid) → k < length bids → P (getD bids k d) → ⊥) → some test bids ≡ false
+pub none-passes : (test : Bid → Bool) (P : Bid → Type 0) → ((b : Bid) → Decides (test b) (P b)) → (bids : List Bid) → ((k : ℕ) (d : Bid) → k < length bids → P (getD bids k d) → ⊥) → anyBid test bids ≡ false
 none-passes test P each [] h = refl
 none-passes test P each (b ∷ bids) h = ⊎-elim
-    (λ t. let found = some-decides test P each (b ∷ bids) .0 t in absurd (h (found .0) b (found .1) (found .2 b)))
+    (λ t. let found = any-decides test P each (b ∷ bids) .0 t in absurd (h (found .0) b (found .1) (found .2 b)))
     (λ f. f)
-    (cases-bool (some test (b ∷ bids)))
+    (cases-bool (anyBid test (b ∷ bids)))
 
 -- ---- the place of a number, where numbers ascend
 module _ (xs : List Bid) (up : Ascend xs) (m n : ℕ) (x : Bid) (l : m < length xs) (is : x ≡ getD xs m x) where
@@ -125,10 +125,10 @@ last-is xs d l =
 
 -- whether a live bid has the number n or a higher one
 abbrev pub stale : ℕ → List Bid → Bool
-stale n xs = some (λ b. leb n (b .number)) xs
+stale n xs = anyBid (λ b. leb n (b .number)) xs
 
 pub stale-decides : (n : ℕ) (xs : List Bid) → Decides (stale n xs) ((k : ℕ) × (k < length xs) × At (λ b. n ≤ b .number) xs k)
-stale-decides n xs = some-decides (λ b. leb n (b .number)) (λ b. n ≤ b .number) (λ b. (leb-true n (b .number), le-leb n (b .number))) xs
+stale-decides n xs = any-decides (λ b. leb n (b .number)) (λ b. n ≤ b .number) (λ b. (leb-true n (b .number), le-leb n (b .number))) xs
 
 pub stale-at : (n : ℕ) (xs : List Bid) (k : ℕ) (d : Bid) → k < length xs → n ≤ getD xs k d .number → stale n xs ≡ true
 stale-at n xs k d l h = stale-decides n xs .1 (k, l, at-read xs (λ b. n ≤ b .number) k (getD xs k d) l (getD-default xs k d (getD xs k d) l) h)

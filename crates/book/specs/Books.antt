@@ -26,10 +26,10 @@ pub record Sound (bids : List Bid) (capacity top : ℕ) : Type 0 where
   pub count : length bids ≤ capacity
   pub highest : top ≤ 19999999
 
--- whether some live bid passes a test
-abbrev pub some : (Bid → Bool) → List Bid → Bool
-some test [] = false
-some test (b ∷ bids) = test b || some test bids
+-- whether a live bid passes a test
+abbrev pub anyBid : (Bid → Bool) → List Bid → Bool
+anyBid test [] = false
+anyBid test (b ∷ bids) = test b || anyBid test bids
 
 -- the number of the last live bid, 0 where there is none
 abbrev pub lastNumber : List Bid → ℕ
@@ -39,21 +39,22 @@ lastNumber bids = folded (λ _ b. b .number) 0 bids
 abbrev pub addAnswer : List Bid → ℕ → ℕ → Bid → Result (Unit {0}) Fault
 addAnswer bids capacity top bid = checked (
     (ltb top (bid .limit), AboveTop top) ∷
-    (some (λ b. leb (bid .number) (b .number)) bids, NotAboveLast (lastNumber bids)) ∷
+    (anyBid (λ b. leb (bid .number) (b .number)) bids, NotAboveLast (lastNumber bids)) ∷
     (eqb (length bids) capacity, BookFull capacity) ∷ []) tt
 
 -- the live bids after that answer: one more, the last, or as they were
-abbrev pub added : List Bid → Bid → Result (Unit {0}) Fault → List Bid
-added bids bid (Ok _) = bids ++ bid ∷ []
-added bids bid (Err _) = bids
+abbrev pub afterAdd : List Bid → Bid → Result (Unit {0}) Fault → List Bid
+afterAdd bids bid (Ok _) = bids ++ bid ∷ []
+afterAdd bids bid (Err _) = bids
 
--- what removing a number answers
+-- what removing a number answers: no live bid has it
 abbrev pub removeAnswer : List Bid → ℕ → Result (Unit {0}) Fault
-removeAnswer bids n = checked ((not (some (λ b. eqb (b .number) n) bids), NotFound n) ∷ []) tt
+removeAnswer bids n = checked ((not (anyBid (λ b. eqb (b .number) n) bids), NotFound n) ∷ []) tt
 
--- the live bids with other numbers, in their order
-abbrev pub without : ℕ → List Bid → List Bid
-without n bids = kept-by (λ b. not (eqb (b .number) n)) bids
+-- the live bids after that answer: those with other numbers, in their order, or as they were
+abbrev pub afterRemove : List Bid → ℕ → Result (Unit {0}) Fault → List Bid
+afterRemove bids n (Ok _) = kept-by (λ b. not (eqb (b .number) n)) bids
+afterRemove bids n (Err _) = bids
 
 -- the least and the greatest of some numbers
 abbrev pub least : List ℕ → Option ℕ

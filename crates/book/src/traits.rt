@@ -6,7 +6,7 @@ ghost use lib.ListN.{length};
 ghost use Rattle.std.specs.shelf.Maps.{nth};
 ghost use Rattle.book.specs.declared.bid.Bid.{Bid};
 ghost use Rattle.book.specs.Bids.{bidOf};
-ghost use Rattle.book.specs.Books.{Sound, addAnswer, added, removeAnswer, without, numberWith, unitsFrom, limitTo};
+ghost use Rattle.book.specs.Books.{Sound, addAnswer, afterAdd, removeAnswer, afterRemove, numberWith, unitsFrom, limitTo};
 use crate::bid::Bid;
 use crate::bid::Found;
 use fault::Fault;
@@ -30,14 +30,14 @@ pub trait Book {
     // number is not above every live number; 17 with the capacity, exactly where the count equals it.
     fn add(&mut self, bid: Bid) -> Result<(), Fault>
         ensures answer { λ r. ⌜ r ≡ addAnswer (bids (now (self .entry))) (capacity (now (self .entry))) (top (now (self .entry))) bid ⌝ }
-        ensures after { λ r. ⌜ bids (now (self .exit)) ≡ added (bids (now (self .entry))) bid r ⌝ }
+        ensures after { λ r. ⌜ bids (now (self .exit)) ≡ afterAdd (bids (now (self .entry))) bid r ⌝ }
         ensures capacity { λ _. ⌜ capacity (now (self .exit)) ≡ capacity (now (self .entry)) ⌝ }
         ensures top { λ _. ⌜ top (now (self .exit)) ≡ top (now (self .entry)) ⌝ };
 
     // Takes out the bid with that number. Refused by 19 with the number where there is none.
     fn remove(&mut self, number: u64) -> Result<(), Fault>
         ensures answer { λ r. ⌜ r ≡ removeAnswer (bids (now (self .entry))) number ⌝ }
-        ensures after { λ _. ⌜ bids (now (self .exit)) ≡ without number (bids (now (self .entry))) ⌝ }
+        ensures after { λ r. ⌜ bids (now (self .exit)) ≡ afterRemove (bids (now (self .entry))) number r ⌝ }
         ensures capacity { λ _. ⌜ capacity (now (self .exit)) ≡ capacity (now (self .entry)) ⌝ }
         ensures top { λ _. ⌜ top (now (self .exit)) ≡ top (now (self .entry)) ⌝ };
 

@@ -9,7 +9,7 @@ returns-in-rest c =
     let s = c .args .self .now in
     let xs = vec-items (s .bids) in
     let none = none-removed (c .live .result .now) xs xs (s .capacity) 19999999 (c .live .ensures .value) (c .live .ensures .sound) (c .args .number) (c .in-rest .ensures tt) in
-    record { answer = none .0; after = none .1; capacity = refl; top = refl }
+    record { answer = none; after = refl; capacity = refl; top = refl }
 
 pub ghost-self : need.ghost-self
 ghost-self c =
