@@ -2,6 +2,7 @@
 use mathlib.Core.Path.{_≡_, refl, sym, ap, _∙_}
 use mathlib.Core.List.{List, [], _∷_, map}
 use mathlib.Core.Bool.{Bool, true, false, cond}
+use mathlib.Core.Logic.{_⊎_, inl, inr, ⊎-elim}
 use Prim.Native.Nat.{ℕ, zero, suc, _+_, _≤_, _<_, min, max}
 use native.Mathlib.Nat.{zero-add}
 use native.Mathlib.Omega.{arith}
@@ -12,8 +13,8 @@ use Rattle.std.specs.declared.option.Option.{Option}
 use Rattle.std.specs.declared.option.Option.the-variants.{Some, None}
 use Rattle.std.proofs.shelf.Elements.{all-map, all-kept-by, all-from-getD}
 use Rattle.std.proofs.shelf.Sums.{sumBy-cons}
-use Rattle.std.proofs.shelf.Tests.{cond-true, cond-false, lt-ltb}
-use Rattle.book.specs.Books.{greatest}
+use Rattle.std.proofs.shelf.Tests.{cases-lt, cond-true, cond-false, lt-ltb}
+use Rattle.book.specs.Books.{least, greatest}
 
 -- ---- sums
 sum-kept-at : {X : Type 0} (f : X → ℕ) (x : X) (ys : List X) (n : ℕ) (t : Bool) → sumBy f ys ≡ n → sumBy f (cond t (x ∷ ys) ys) ≡ cond t (f x) 0 + n
@@ -24,19 +25,45 @@ pub sum-kept : {X : Type 0} (f : X → ℕ) (q : X → Bool) (xs : List X) → s
 sum-kept f q [] = refl
 sum-kept f q (x ∷ xs) = sum-kept-at f x (kept-by q xs) _ (q x) (sum-kept f q xs) ∙ sym (sumBy-cons (λ y. cond (q y) (f y) 0) x xs)
 
+-- ---- the least and the greatest of some numbers
+abbrev pub Any : {X : Type 0} → (X → Type 0) → List X → Type 0
+Any P [] = ⊥
+Any P (x ∷ xs) = P x ⊎ Any P xs
+
+-- r is one of the numbers and stands in R to each, or there are none
+abbrev pub Picked : (ℕ → ℕ → Type 0) → List ℕ → Option ℕ → Type 0
+Picked R ns None = All (λ _. ⊥) ns
+Picked R ns (Some m) = Any (λ n. n ≡ m) ns × All (R m) ns
+
+module _ (op : ℕ → ℕ → ℕ) (R : ℕ → ℕ → Type 0) (self : (a : ℕ) → R a a) (trans : (a b c : ℕ) → R a b → R b c → R a c)
+    (left : (a b : ℕ) → R (op a b) a) (right : (a b : ℕ) → R (op a b) b) (either : (a b : ℕ) → (op a b ≡ a) ⊎ (op a b ≡ b)) where
+  folded-picks : (n : ℕ) (ns : List ℕ) → Picked R (n ∷ ns) (Some (folded op n ns))
+  folded-picks n [] = (inl refl, (self n, tt))
+  folded-picks n (m ∷ ns) =
+      let h = folded-picks (op n m) ns in (
+        ⊎-elim (λ e. ⊎-elim (λ l. inl (sym l ∙ e)) (λ r. inr (inl (sym r ∙ e))) (either n m)) (λ r. inr (inr r)) (h .0),
+        (trans _ _ _ (h .1 .0) (left n m), (trans _ _ _ (h .1 .0) (right n m), h .1 .1)),
+      )
+
+pub least-picks : (ns : List ℕ) → Picked _≤_ ns (least ns)
+least-picks [] = tt
+least-picks (n ∷ ns) = folded-picks min _≤_ (λ a. omega arith) (λ a b c p q. omega arith) (λ a b. omega arith) (λ a b. omega arith)
+    (λ a b. ⊎-elim (λ lt. inl (omega arith)) (λ ge. inr (omega arith)) (cases-lt a b)) n ns
+
+pub greatest-picks : (ns : List ℕ) → Picked (λ m n. n ≤ m) ns (greatest ns)
+greatest-picks [] = tt
+greatest-picks (n ∷ ns) = folded-picks max (λ k j. j ≤ k) (λ a. omega arith) (λ a b c p q. omega arith) (λ a b. omega arith) (λ a b. omega arith)
+    (λ a b. ⊎-elim (λ lt. inr (omega arith)) (λ ge. inl (omega arith)) (cases-lt a b)) n ns
+
 -- ---- the greatest, with 0 for none
 abbrev pub unless0 : ℕ → Option ℕ
 unless0 n = cond (ltb 0 n) (Some n) None
-
-le-folded-max : (n : ℕ) (ns : List ℕ) → n ≤ folded max n ns
-le-folded-max n [] = omega arith
-le-folded-max n (m ∷ ns) = omega (arith, le-folded-max (max n m) ns)
 
 greatest-from-0 : (ns : List ℕ) → All (λ n. 1 ≤ n) ns → greatest ns ≡ unless0 (folded max 0 ns)
 greatest-from-0 [] h = refl
 greatest-from-0 (n ∷ ns) h =
     let e : max 0 n ≡ n = omega arith in
-    let l : 0 < folded max n ns = omega (arith, le-folded-max n ns, h .0) in
+    let l : 0 < folded max n ns = omega (arith, greatest-picks (n ∷ ns) .1 .0, h .0) in
     sym (ap (λ m. unless0 (folded max m ns)) e ∙ cond-true _ _ _ (lt-ltb 0 (folded max n ns) l))
 
 -- one element more, passed or not

@@ -1,27 +1,25 @@
 -- What adding and removing answer, and that they keep a book sound.
 use mathlib.Core.Path.{_≡_, sym, ap, subst, _∙_}
 use mathlib.Core.List.{List, [], _∷_, _++_}
-use mathlib.Core.Bool.{Bool, false, not}
+use mathlib.Core.Bool.{false, not}
 use mathlib.Core.Logic.{⊎-elim}
 use Prim.Native.Nat.{ℕ, suc, _+_, _≤_, _<_}
 use native.Mathlib.Omega.{arith}
 use lib.Dec.{eqb, ltb}
 use lib.ListN.{length, getD, take, drop}
-use Rattle.std.specs.Orderings.{Decides}
-use Rattle.std.specs.shelf.Lists.{All, kept-by, removed}
+use Rattle.std.specs.shelf.Lists.{All, removed}
 use Rattle.std.specs.declared.result.Result.{Result}
 use Rattle.std.specs.declared.result.Result.the-variants.{Ok, Err}
 use Rattle.std.proofs.shelf.Lists.{getD-append-left, getD-push, length-push}
 use Rattle.std.proofs.shelf.Edits.{length-removed, getD-removed-below, getD-removed-above}
-use Rattle.std.proofs.shelf.Elements.{all-push, all-append, all-take, all-drop}
-use Rattle.std.proofs.shelf.Tests.{cases-bool, cases-lt, cases-order, both-ways, cond-true, cond-false, ltb-false, eqb-false, eq-eqb, ne-eqb, not-from-true, not-from-false}
-use Rattle.std.proofs.shelf.Ways.{decides-eqb}
+use Rattle.std.proofs.shelf.Elements.{all-push, all-append, all-getD, all-take, all-drop}
+use Rattle.std.proofs.shelf.Tests.{cases-bool, cases-lt, cases-order, cond-true, cond-false, ltb-false, eqb-false, eq-eqb, ne-eqb, not-false, not-from-true, not-from-false}
 use Rattle.fault.specs.declared.Fault.{Fault}
 use Rattle.fault.specs.declared.Fault.the-variants.{AboveTop, BookFull, NotAboveLast, NotFound}
 use Rattle.book.specs.declared.bid.Bid.{Bid}
-use Rattle.book.specs.Books.{Ascend, Sound, anyBid, lastNumber, addAnswer, removeAnswer}
+use Rattle.book.specs.Books.{Ascend, Sound, hasNumber, aboveAll, lastNumber, addAnswer, removeAnswer, afterRemove}
 use Rattle.book.proofs.Filters.{kept-others}
-use Rattle.book.proofs.Passes.{any-decides, none-passes, stale, stale-at}
+use Rattle.book.proofs.Passes.{has-decides, above-decides}
 
 pub sound-none : (capacity : ℕ) → Sound [] capacity 19999999
 sound-none capacity = record { ascend = λ i j d l m. absurd (omega arith); limits = tt; count = omega arith; highest = omega arith }
@@ -31,16 +29,11 @@ module _ (bids : List Bid) (capacity top : ℕ) (bid : Bid) where
   -- what an accepted bid shows
   pub record Accepted : Type 0 where
     pub low : bid .limit ≤ top
-    pub above : (k : ℕ) (d : Bid) → k < length bids → getD bids k d .number < bid .number
+    pub above : All (λ b. b .number < bid .number) bids
     pub room : length bids ≡ capacity → ⊥
 
   refused : (f : Fault) → _≡_ {A = Result (Unit {0}) Fault} (Err f) (Ok tt) → ⊥
   refused f e = let z : _≡_ {A = ℕ} 0 1 = cc in omega arith
-
-  above-from : stale (bid .number) bids ≡ false → (k : ℕ) (d : Bid) → k < length bids → getD bids k d .number < bid .number
-  above-from f k d l = ⊎-elim (λ lt. lt)
-      (λ ge. absurd (both-ways _ f (stale-at (bid .number) bids k d l ge)))
-      (cases-lt (getD bids k d .number) (bid .number))
 
   pub accepted : addAnswer bids capacity top bid ≡ Ok tt → Accepted
   accepted e = ⊎-elim
@@ -49,12 +42,12 @@ module _ (bids : List Bid) (capacity top : ℕ) (bid : Bid) where
       (λ t. absurd (refused (NotAboveLast (lastNumber bids)) (sym (cond-true _ _ _ t) ∙ e1)))
       (λ g. let e2 = sym (cond-false _ _ _ g) ∙ e1 in ⊎-elim
       (λ t. absurd (refused (BookFull capacity) (sym (cond-true _ _ _ t) ∙ e2)))
-      (λ h. record { low = ltb-false top (bid .limit) f; above = above-from g; room = eqb-false (length bids) capacity h })
+      (λ h. record { low = ltb-false top (bid .limit) f; above = above-decides (bid .number) bids .0 (not-false _ g); room = eqb-false (length bids) capacity h })
       (cases-bool (eqb (length bids) capacity)))
-      (cases-bool (stale (bid .number) bids)))
+      (cases-bool (not (aboveAll (bid .number) bids))))
       (cases-bool (ltb top (bid .limit)))
 
-ascend-push : (bids : List Bid) (bid : Bid) → Ascend bids → ((k : ℕ) (d : Bid) → k < length bids → getD bids k d .number < bid .number) → Ascend (bids ++ bid ∷ [])
+ascend-push : (bids : List Bid) (bid : Bid) → Ascend bids → All (λ b. b .number < bid .number) bids → Ascend (bids ++ bid ∷ [])
 ascend-push bids bid up above i j d l m =
     let n = length-push bids bid in
     let number : Bid → ℕ = λ b. b .number in
@@ -62,7 +55,7 @@ ascend-push bids bid up above i j d l m =
     let left = ap number (getD-append-left bids (bid ∷ []) d i il) in
     ⊎-elim
     (λ jl. let right = ap number (getD-append-left bids (bid ∷ []) d j jl) in omega (arith, up i j d l jl))
-    (λ jg. let right = ap number (getD-push bids bid d j (omega arith)) in omega (arith, above i d il))
+    (λ jg. let right = ap number (getD-push bids bid d j (omega arith)) in omega (arith, all-getD (λ b. b .number < bid .number) bids i d il above))
     (cases-lt j (length bids))
 
 pub sound-push : (bids : List Bid) (capacity top : ℕ) (bid : Bid) → Sound bids capacity top → addAnswer bids capacity top bid ≡ Ok tt → Sound (bids ++ bid ∷ []) capacity top
@@ -79,33 +72,20 @@ sound-push bids capacity top bid s e =
     }
 
 -- ---- removing
-abbrev pub numbered : ℕ → List Bid → Bool
-numbered n bids = anyBid (λ b. eqb (b .number) n) bids
-
-decides-number : (n : ℕ) (b : Bid) → Decides (eqb (b .number) n) (b .number ≡ n)
-decides-number n b = decides-eqb (b .number) n
-
-pub none-numbered : (bids : List Bid) (n : ℕ) → ((k : ℕ) (d : Bid) → k < length bids → getD bids k d .number ≡ n → ⊥) → numbered n bids ≡ false
-none-numbered bids n h = none-passes (λ b. eqb (b .number) n) (λ b. b .number ≡ n) (decides-number n) bids h
-
-pub remove-none : (bids : List Bid) (n : ℕ) → numbered n bids ≡ false → Err (NotFound n) ≡ removeAnswer bids n
+pub remove-none : (bids : List Bid) (n : ℕ) → hasNumber n bids ≡ false → Err (NotFound n) ≡ removeAnswer bids n
 remove-none bids n e = sym (cond-true _ _ _ (not-from-false _ e))
-
--- the live bids with other numbers
-abbrev pub without : ℕ → List Bid → List Bid
-without n bids = kept-by (λ b. not (eqb (b .number) n)) bids
 
 -- the bid with the number n stands at a place
 module _ (bids : List Bid) (n at : ℕ) (l : at < length bids) (here : (d : Bid) → getD bids at d .number ≡ n) where
   pub remove-found : Ok tt ≡ removeAnswer bids n
-  remove-found = sym (cond-false _ _ _ (not-from-true _ (any-decides (λ b. eqb (b .number) n) (λ b. b .number ≡ n) (decides-number n) bids .1 (at, l, here))))
+  remove-found = sym (cond-false _ _ _ (not-from-true _ (has-decides n bids .1 (at, l, here))))
 
   elsewhere : Ascend bids → (k : ℕ) (d : Bid) → k < length bids → (k ≡ at → ⊥) → getD bids k d .number ≡ n → ⊥
   elsewhere up k d m ne e = ⊎-elim (λ q. ne q)
       (⊎-elim (λ lt. omega (arith, up k at d lt l, here d)) (λ gt. omega (arith, up at k d gt m, here d)))
       (cases-order k at)
 
-  pub removed-found : Ascend bids → removed bids at ≡ without n bids
+  pub removed-found : Ascend bids → removed bids at ≡ afterRemove bids n (Ok tt)
   removed-found up = sym (kept-others (λ b. not (eqb (b .number) n)) bids at l
       (λ d. not-from-true _ (eq-eqb _ n (here d)))
       (λ k d m ne. not-from-false _ (ne-eqb _ n (elsewhere up k d m ne))))
@@ -147,15 +127,15 @@ module _ (xs bids ys : List Bid) (capacity top : ℕ) (shown : xs ≡ bids) (s :
   pub sound-after-add : (bid : Bid) (r : Result (Unit {0}) Fault) → r ≡ addAnswer xs capacity top bid → r ≡ Ok tt → ys ≡ bids ++ bid ∷ [] → Sound ys capacity top
   sound-after-add bid r e ok after = subst (λ (zs : List Bid). Sound zs capacity top) (ap (λ (zs : List Bid). zs ++ bid ∷ []) shown ∙ sym after) (sound-push xs capacity top bid s (sym e ∙ ok))
 
-  pub none-removed : (n : ℕ) → numbered n xs ≡ false → Err (NotFound n) ≡ removeAnswer bids n
-  none-removed n e = remove-none bids n (ap (numbered n) (sym shown) ∙ e)
+  pub none-removed : (n : ℕ) → hasNumber n xs ≡ false → Err (NotFound n) ≡ removeAnswer bids n
+  none-removed n e = remove-none bids n (ap (hasNumber n) (sym shown) ∙ e)
 
   module _ (n at : ℕ) (l : at < length xs) (after : ys ≡ removed bids at) where
     pub sound-after-remove : Sound ys capacity top
     sound-after-remove = subst (λ (zs : List Bid). Sound zs capacity top) (ap (λ (zs : List Bid). removed zs at) shown ∙ sym after) (sound-removed xs capacity top at l s)
 
-    pub one-removed : ((d : Bid) → getD xs at d .number ≡ n) → (Ok tt ≡ removeAnswer bids n) × (ys ≡ without n bids)
+    pub one-removed : ((d : Bid) → getD xs at d .number ≡ n) → (Ok tt ≡ removeAnswer bids n) × (ys ≡ afterRemove bids n (Ok tt))
     one-removed here = (
       remove-found xs n at l here ∙ ap (λ (zs : List Bid). removeAnswer zs n) shown,
-      after ∙ ap (λ (zs : List Bid). removed zs at) (sym shown) ∙ removed-found xs n at l here (s .ascend) ∙ ap (without n) shown,
+      after ∙ ap (λ (zs : List Bid). removed zs at) (sym shown) ∙ removed-found xs n at l here (s .ascend) ∙ ap (λ (zs : List Bid). afterRemove zs n (Ok tt)) shown,
     )

@@ -1,12 +1,12 @@
 -- The answers of a book mean what they say.
-use mathlib.Core.Path.{_≡_, refl, sym, ap, subst, _∙_}
+use mathlib.Core.Path.{_≡_, refl, ap, subst, _∙_}
 use mathlib.Core.List.{List, [], _∷_, map}
 use mathlib.Core.Bool.{Bool, true, cond}
 use mathlib.Core.Logic.{_⊎_, inl, inr, ⊎-elim}
-use Prim.Native.Nat.{ℕ, suc, _+_, _≤_, _<_, min, max}
+use Prim.Native.Nat.{ℕ, suc, _+_, _≤_, _<_}
 use native.Mathlib.Omega.{arith}
 use lib.Dec.{eqb, leb}
-use Rattle.std.specs.shelf.Lists.{All, folded, sumBy, kept-by}
+use Rattle.std.specs.shelf.Lists.{All, sumBy, kept-by}
 use Rattle.std.specs.shelf.Text.{sameBytes}
 use Rattle.std.specs.declared.option.Option.{Option}
 use Rattle.std.specs.declared.option.Option.the-variants.{Some, None}
@@ -16,23 +16,21 @@ use Rattle.std.proofs.shelf.Sums.{sumBy-cons}
 use Rattle.std.proofs.shelf.Tests.{cases-bool, cases-lt, cond-true, cond-false, both-ways, leb-true, le-leb, lt-leb}
 use Rattle.std.proofs.shelf.Ways.{tells}
 use Rattle.book.specs.declared.bid.Bid.{Bid}
-use Rattle.book.specs.Books.{least, greatest, numberWith, unitsFrom, limitTo}
+use Rattle.book.specs.Books.{numberWith, unitsFrom, limitTo}
 use Rattle.book.specs.Laws.{Exists, Lowest, Highest, unitsAt, Answers}
-use Rattle.book.proofs.Filters.{sum-kept}
+use Rattle.book.proofs.Filters.{sum-kept, Any, Picked, least-picks, greatest-picks}
+use Rattle.book.proofs.Passes.{share}
 
 -- ---- units by the cent
-abbrev from : ℕ → Bid → ℕ
-from p b = cond (leb p (b .limit)) (b .units) 0
-
 abbrev at : ℕ → Bid → ℕ
 at p b = cond (eqb (b .limit) p) (b .units) 0
 
-one-cent : (p : ℕ) (b : Bid) → from p b ≡ from (p + 1) b + at p b
+one-cent : (p : ℕ) (b : Bid) → share p b ≡ share (p + 1) b + at p b
 one-cent p b = grind (arith, tells)
 
-by-cent : (p : ℕ) (bids : List Bid) → sumBy (from p) bids ≡ sumBy (from (p + 1)) bids + sumBy (at p) bids
+by-cent : (p : ℕ) (bids : List Bid) → sumBy (share p) bids ≡ sumBy (share (p + 1)) bids + sumBy (at p) bids
 by-cent p [] = refl
-by-cent p (b ∷ bids) = omega (arith, sumBy-cons (from p) b bids, sumBy-cons (from (p + 1)) b bids, sumBy-cons (at p) b bids, one-cent p b, by-cent p bids)
+by-cent p (b ∷ bids) = omega (arith, sumBy-cons (share p) b bids, sumBy-cons (share (p + 1)) b bids, sumBy-cons (at p) b bids, one-cent p b, by-cent p bids)
 
 units-level : (p : ℕ) (bids : List Bid) → unitsFrom p bids ≡ unitsFrom (p + 1) bids + unitsAt p bids
 units-level p bids = omega (
@@ -46,43 +44,6 @@ units-level p bids = omega (
 units-none : (p : ℕ) → 19999999 < p → (bids : List Bid) → unitsFrom p bids ≡ 0
 units-none p h [] = refl
 units-none p h (b ∷ bids) = ap (sumBy (λ (x : Bid). x .units)) (cond-false _ _ _ (lt-leb p (b .limit) (omega (arith, b .fit .3)))) ∙ units-none p h bids
-
--- ---- the least and the greatest of some numbers
-abbrev Any : {X : Type 0} → (X → Type 0) → List X → Type 0
-Any P [] = ⊥
-Any P (x ∷ xs) = P x ⊎ Any P xs
-
--- r is one of the numbers and stands in R to each, or there are none
-abbrev Picked : (ℕ → ℕ → Type 0) → List ℕ → Option ℕ → Type 0
-Picked R ns None = All (λ _. ⊥) ns
-Picked R ns (Some m) = Any (λ n. n ≡ m) ns × All (R m) ns
-
-module _ (op : ℕ → ℕ → ℕ) (R : ℕ → ℕ → Type 0) (self : (a : ℕ) → R a a) (trans : (a b c : ℕ) → R a b → R b c → R a c)
-    (left : (a b : ℕ) → R (op a b) a) (right : (a b : ℕ) → R (op a b) b) (either : (a b : ℕ) → (op a b ≡ a) ⊎ (op a b ≡ b)) where
-  folded-to-all : (n : ℕ) (ns : List ℕ) → R (folded op n ns) n × All (R (folded op n ns)) ns
-  folded-to-all n [] = (self n, tt)
-  folded-to-all n (m ∷ ns) = let h = folded-to-all (op n m) ns in (trans _ _ _ (h .0) (left n m), (trans _ _ _ (h .0) (right n m), h .1))
-
-  folded-among : (n : ℕ) (ns : List ℕ) → Any (λ k. k ≡ folded op n ns) (n ∷ ns)
-  folded-among n [] = inl refl
-  folded-among n (m ∷ ns) = ⊎-elim
-      (λ e. ⊎-elim (λ l. inl (sym l ∙ e)) (λ r. inr (inl (sym r ∙ e))) (either n m))
-      (λ h. inr (inr h))
-      (folded-among (op n m) ns)
-
-least-picks : (ns : List ℕ) → Picked _≤_ ns (least ns)
-least-picks [] = tt
-least-picks (n ∷ ns) = let smaller : (a b : ℕ) → (min a b ≡ a) ⊎ (min a b ≡ b) = λ a b. ⊎-elim (λ lt. inl (omega arith)) (λ ge. inr (omega arith)) (cases-lt a b) in (
-  folded-among min _≤_ (λ a. omega arith) (λ a b c p q. omega arith) (λ a b. omega arith) (λ a b. omega arith) smaller n ns,
-  folded-to-all min _≤_ (λ a. omega arith) (λ a b c p q. omega arith) (λ a b. omega arith) (λ a b. omega arith) smaller n ns,
-)
-
-greatest-picks : (ns : List ℕ) → Picked (λ m n. n ≤ m) ns (greatest ns)
-greatest-picks [] = tt
-greatest-picks (n ∷ ns) = let larger : (a b : ℕ) → (max a b ≡ a) ⊎ (max a b ≡ b) = λ a b. ⊎-elim (λ lt. inr (omega arith)) (λ ge. inl (omega arith)) (cases-lt a b) in (
-  folded-among max (λ k j. j ≤ k) (λ a. omega arith) (λ a b c p q. omega arith) (λ a b. omega arith) (λ a b. omega arith) larger n ns,
-  folded-to-all max (λ k j. j ≤ k) (λ a. omega arith) (λ a b c p q. omega arith) (λ a b. omega arith) (λ a b. omega arith) larger n ns,
-)
 
 -- ---- from what a test keeps back to the bids
 module _ (f : Bid → ℕ) (q : Bid → Bool) where

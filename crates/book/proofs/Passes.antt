@@ -1,7 +1,7 @@
 -- Steps of the passes over a run of bids: x is read at the place i.
 use mathlib.Core.Path.{_≡_, refl, sym, ap, _∙_}
 use mathlib.Core.List.{List, [], _∷_, map}
-use mathlib.Core.Bool.{Bool, true, false, cond, not, _&&_}
+use mathlib.Core.Bool.{Bool, true, false, cond, _&&_}
 use mathlib.Core.Logic.{⊎-elim}
 use Prim.Native.Nat.{ℕ, zero, suc, _+_, _-_, _≤_, _<_, max}
 use native.Mathlib.Omega.{arith}
@@ -11,13 +11,13 @@ use Rattle.std.specs.Orderings.{Decides}
 use Rattle.std.specs.shelf.Lists.{All, At, folded, sumBy, kept-by}
 use Rattle.std.specs.shelf.Text.{sameBytes}
 use Rattle.std.specs.declared.option.Option.the-variants.{Some}
-use Rattle.std.proofs.shelf.Elements.{all-from-getD, all-kept-by, all-map, at-read}
-use Rattle.std.proofs.shelf.Lists.{getD-default, getD-drop, getD-read, at-drop-more, length-drop, nil-from-length, take-all}
+use Rattle.std.proofs.shelf.Elements.{all-from-getD, all-getD, all-kept-by, all-map}
+use Rattle.std.proofs.shelf.Lists.{getD-default, getD-drop, at-drop-more, length-drop, nil-from-length, take-all}
 use Rattle.std.proofs.shelf.Sums.{sumBy-more, folded-more}
-use Rattle.std.proofs.shelf.Tests.{cases-bool, cases-lt, cond-true, cond-false, leb-true, le-leb, lt-ltb, le-ltb, not-from-true, not-from-false}
-use Rattle.std.proofs.shelf.Ways.{decides-by-or}
+use Rattle.std.proofs.shelf.Tests.{cases-bool, cases-lt, cond-true, cond-false}
+use Rattle.std.proofs.shelf.Ways.{decides-by-and, decides-by-or, decides-eqb, decides-like, decides-ltb, same-from-decides}
 use Rattle.book.specs.declared.bid.Bid.{Bid}
-use Rattle.book.specs.Books.{Ascend, anyBid, lastNumber, least, numberWith, unitsFrom, limitTo}
+use Rattle.book.specs.Books.{Ascend, hasNumber, aboveAll, lastNumber, least, numberWith, unitsFrom, limitTo}
 use Rattle.book.proofs.Filters.{sum-kept, unless0, greatest-kept, folded-min}
 
 -- ---- units at or above a price
@@ -46,8 +46,9 @@ all-limits : (bids : List Bid) → All (λ b. 1 ≤ b .limit) bids
 all-limits [] = tt
 all-limits (b ∷ bids) = (b .fit .2, all-limits bids)
 
-pub limit-to : (p : ℕ) (bids : List Bid) → limitTo p bids ≡ unless0 (highest p bids)
-limit-to p bids = greatest-kept (λ b. b .limit) (λ b. leb (b .limit) p) bids (all-limits bids)
+-- a pass that has come to the end
+pub limit-all : (p : ℕ) (bids : List Bid) (i n : ℕ) → length bids ≤ i → n ≡ highest p (take i bids) → limitTo p bids ≡ unless0 n
+limit-all p bids i n l e = greatest-kept (λ b. b .limit) (λ b. leb (b .limit) p) bids (all-limits bids) ∙ ap unless0 (sym (e ∙ ap (highest p) (take-all i bids l)))
 
 -- ---- the first bid with a token
 module _ (t : List ℕ) (xs : List Bid) (i : ℕ) (x : Bid) (l : i < length xs) (is : x ≡ getD xs i x) where
@@ -85,68 +86,61 @@ same-more (x ∷ a) [] i l m = absurd (omega arith)
 same-more (x ∷ a) (y ∷ b) zero l m = and-true (eqb x y)
 same-more (x ∷ a) (y ∷ b) (suc i) l m = ap (λ t. eqb x y && t) (same-more a b i (omega arith) (omega arith)) ∙ and-assoc (eqb x y) _ _
 
--- ---- whether a bid passes a test
-pub any-decides : (test : Bid → Bool) (P : Bid → Type 0) → ((b : Bid) → Decides (test b) (P b)) → (bids : List Bid) → Decides (anyBid test bids) ((k : ℕ) × (k < length bids) × At P bids k)
-any-decides test P each bids = decides-by-or test P (anyBid test) each refl (λ _ _. refl) bids
+-- ---- a number among the live ones
+pub has-decides : (n : ℕ) (bids : List Bid) → Decides (hasNumber n bids) ((k : ℕ) × (k < length bids) × At (λ b. b .number ≡ n) bids k)
+has-decides n bids = decides-by-or (λ b. eqb (b .number) n) (λ b. b .number ≡ n) (hasNumber n) (λ b. decides-eqb (b .number) n) refl (λ _ _. refl) bids
 
-pub none-passes : (test : Bid → Bool) (P : Bid → Type 0) → ((b : Bid) → Decides (test b) (P b)) → (bids : List Bid) → ((k : ℕ) (d : Bid) → k < length bids → P (getD bids k d) → ⊥) → anyBid test bids ≡ false
-none-passes test P each [] h = refl
-none-passes test P each (b ∷ bids) h = ⊎-elim
-    (λ t. let found = any-decides test P each (b ∷ bids) .0 t in absurd (h (found .0) b (found .1) (found .2 b)))
+pub has-none : (n : ℕ) (bids : List Bid) → ((k : ℕ) (d : Bid) → k < length bids → getD bids k d .number ≡ n → ⊥) → hasNumber n bids ≡ false
+has-none n [] h = refl
+has-none n (b ∷ bids) h = ⊎-elim
+    (λ t. let found = has-decides n (b ∷ bids) .0 t in absurd (h (found .0) b (found .1) (found .2 b)))
     (λ f. f)
-    (cases-bool (anyBid test (b ∷ bids)))
+    (cases-bool (hasNumber n (b ∷ bids)))
 
--- ---- the place of a number, where numbers ascend
-module _ (xs : List Bid) (up : Ascend xs) (m n : ℕ) (x : Bid) (l : m < length xs) (is : x ≡ getD xs m x) where
-  here : (d : Bid) → getD xs m d .number ≡ x .number
-  here d = ap (λ (b : Bid). b .number) (sym (getD-read xs m x l is d))
+pub above-decides : (n : ℕ) (bids : List Bid) → Decides (aboveAll n bids) (All (λ b. b .number < n) bids)
+above-decides n bids = decides-by-and (λ b. ltb (b .number) n) (λ b. b .number < n) (aboveAll n) (λ b. decides-ltb (b .number) n) refl (λ _ _. refl) bids
 
-  pub lower-below : x .number < n → (k : ℕ) (d : Bid) → k < m + 1 → getD xs k d .number < n
+-- ---- where numbers ascend, those before a place are lower, and those behind it higher
+module _ (xs : List Bid) (up : Ascend xs) (m n : ℕ) (x : Bid) (l : m < length xs) where
+  here : (d : Bid) → getD xs m d .number ≡ getD xs m x .number
+  here d = ap (λ (b : Bid). b .number) (getD-default xs m d x l)
+
+  there : (k : ℕ) (d : Bid) → k ≡ m → getD xs k d .number ≡ getD xs m d .number
+  there k d e = ap (λ i. getD xs i d .number) e
+
+  pub lower-below : getD xs m x .number < n → (k : ℕ) (d : Bid) → k < m + 1 → getD xs k d .number < n
   lower-below h k d q = ⊎-elim
       (λ lt. omega (arith, up k m d lt l, here d))
-      (λ ge. let e : k ≡ m = omega arith in omega (arith, ap (λ i. getD xs i d .number) e, here d))
+      (λ ge. omega (arith, there k d (omega arith), here d))
       (cases-lt k m)
 
-  pub higher-above : n < x .number → (k : ℕ) (d : Bid) → m ≤ k → k < length xs → n < getD xs k d .number
+  pub higher-above : n < getD xs m x .number → (k : ℕ) (d : Bid) → m ≤ k → k < length xs → n < getD xs k d .number
   higher-above h k d q r = ⊎-elim
       (λ lt. omega (arith, up m k d lt r, here d))
-      (λ ge. let e : k ≡ m = omega arith in omega (arith, ap (λ i. getD xs i d .number) e, here d))
+      (λ ge. omega (arith, there k d (omega arith), here d))
       (cases-lt m k)
 
 -- ---- the last number
-abbrev pub last : List Bid → Bid → Bid
-last xs d = getD xs (length xs - 1) d
-
-pub last-is : (xs : List Bid) (d : Bid) → 0 < length xs → lastNumber xs ≡ last xs d .number
+pub last-is : (xs : List Bid) (d : Bid) → 0 < length xs → lastNumber xs ≡ getD xs (length xs - 1) d .number
 last-is xs d l =
     let i = length xs - 1 in
     let e : length xs ≤ i + 1 = omega arith in
     sym (ap lastNumber (take-all (i + 1) xs e)) ∙ folded-more (λ _ b. b .number) 0 xs i d (omega arith)
 
--- whether a live bid has the number n or a higher one
-abbrev pub stale : ℕ → List Bid → Bool
-stale n xs = anyBid (λ b. leb n (b .number)) xs
+pub above-none : (n : ℕ) (xs : List Bid) → length xs ≡ 0 → true ≡ aboveAll n xs
+above-none n xs e = ap (aboveAll n) (sym (nil-from-length xs e))
 
-pub stale-decides : (n : ℕ) (xs : List Bid) → Decides (stale n xs) ((k : ℕ) × (k < length xs) × At (λ b. n ≤ b .number) xs k)
-stale-decides n xs = any-decides (λ b. leb n (b .number)) (λ b. n ≤ b .number) (λ b. (leb-true n (b .number), le-leb n (b .number))) xs
-
-pub stale-at : (n : ℕ) (xs : List Bid) (k : ℕ) (d : Bid) → k < length xs → n ≤ getD xs k d .number → stale n xs ≡ true
-stale-at n xs k d l h = stale-decides n xs .1 (k, l, at-read xs (λ b. n ≤ b .number) k (getD xs k d) l (getD-default xs k d (getD xs k d) l) h)
-
--- with the numbers ascending, above the last one is above all
-pub not-stale : (n : ℕ) (xs : List Bid) (d : Bid) → Ascend xs → last xs d .number < n → stale n xs ≡ false
-not-stale n xs d up h = none-passes (λ b. leb n (b .number)) (λ b. n ≤ b .number) (λ b. (leb-true n (b .number), le-leb n (b .number))) xs
-    (λ k e l q. let m : length xs - 1 < length xs = omega arith in
-    omega (arith, lower-below xs up (length xs - 1) n (last xs d) m (getD-default xs (length xs - 1) d (last xs d) m) h k e (omega arith)))
-
-pub above-none : (n : ℕ) (xs : List Bid) → length xs ≡ 0 → true ≡ not (stale n xs)
-above-none n xs e = ap (λ ys. not (stale n ys)) (sym (nil-from-length xs e))
-
-pub above-last : (n : ℕ) (xs : List Bid) → Ascend xs → (length xs ≡ 0 → ⊥) → ltb (lastNumber xs) n ≡ not (stale n xs)
+-- above the last number is above all
+pub above-last : (n : ℕ) (xs : List Bid) → Ascend xs → (length xs ≡ 0 → ⊥) → ltb (lastNumber xs) n ≡ aboveAll n xs
 above-last n [] up some0 = absurd (some0 refl)
 above-last n (x ∷ xs) up some0 =
-    let e = last-is (x ∷ xs) x (omega arith) in
-    ap (λ m. ltb m n) e ∙ ⊎-elim
-    (λ lt. lt-ltb _ n lt ∙ sym (not-from-false _ (not-stale n (x ∷ xs) x up lt)))
-    (λ ge. le-ltb _ n ge ∙ sym (not-from-true _ (stale-at n (x ∷ xs) (length (x ∷ xs) - 1) x (omega arith) ge)))
-    (cases-lt (last (x ∷ xs) x .number) n)
+    let bids = x ∷ xs in
+    let i = length bids - 1 in
+    let l : i < length bids = omega arith in
+    let e = last-is bids x (omega arith) in
+    same-from-decides (ltb (lastNumber bids) n) (aboveAll n bids)
+    (decides-like _
+    (λ lt. all-from-getD (λ b. b .number < n) bids x (λ k q. lower-below bids up i n x l (omega arith) k x (omega arith)))
+    (λ h. omega (arith, all-getD (λ b. b .number < n) bids i x l h))
+    (decides-ltb (lastNumber bids) n))
+    (above-decides n bids)

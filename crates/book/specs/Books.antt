@@ -1,6 +1,6 @@
 -- What a book means, over its live bids in order of number, its capacity and its top.
 use mathlib.Core.List.{List, [], _∷_, _++_, map}
-use mathlib.Core.Bool.{Bool, false, not, _||_}
+use mathlib.Core.Bool.{Bool, true, false, not, _&&_, _||_}
 use Prim.Native.Nat.{ℕ, _≤_, _<_, min, max}
 use lib.Dec.{eqb, ltb, leb}
 use lib.ListN.{length, getD}
@@ -26,10 +26,15 @@ pub record Sound (bids : List Bid) (capacity top : ℕ) : Type 0 where
   pub count : length bids ≤ capacity
   pub highest : top ≤ 19999999
 
--- whether a live bid passes a test
-abbrev pub anyBid : (Bid → Bool) → List Bid → Bool
-anyBid test [] = false
-anyBid test (b ∷ bids) = test b || anyBid test bids
+-- whether a live bid has the number n
+abbrev pub hasNumber : ℕ → List Bid → Bool
+hasNumber n [] = false
+hasNumber n (b ∷ bids) = eqb (b .number) n || hasNumber n bids
+
+-- whether n is above every live number
+abbrev pub aboveAll : ℕ → List Bid → Bool
+aboveAll n [] = true
+aboveAll n (b ∷ bids) = ltb (b .number) n && aboveAll n bids
 
 -- the number of the last live bid, 0 where there is none
 abbrev pub lastNumber : List Bid → ℕ
@@ -39,7 +44,7 @@ lastNumber bids = folded (λ _ b. b .number) 0 bids
 abbrev pub addAnswer : List Bid → ℕ → ℕ → Bid → Result (Unit {0}) Fault
 addAnswer bids capacity top bid = checked (
     (ltb top (bid .limit), AboveTop top) ∷
-    (anyBid (λ b. leb (bid .number) (b .number)) bids, NotAboveLast (lastNumber bids)) ∷
+    (not (aboveAll (bid .number) bids), NotAboveLast (lastNumber bids)) ∷
     (eqb (length bids) capacity, BookFull capacity) ∷ []) tt
 
 -- the live bids after that answer: one more, the last, or as they were
@@ -49,7 +54,7 @@ afterAdd bids bid (Err _) = bids
 
 -- what removing a number answers: no live bid has it
 abbrev pub removeAnswer : List Bid → ℕ → Result (Unit {0}) Fault
-removeAnswer bids n = checked ((not (anyBid (λ b. eqb (b .number) n) bids), NotFound n) ∷ []) tt
+removeAnswer bids n = checked ((not (hasNumber n bids), NotFound n) ∷ []) tt
 
 -- the live bids after that answer: those with other numbers, in their order, or as they were
 abbrev pub afterRemove : List Bid → ℕ → Result (Unit {0}) Fault → List Bid

@@ -3,3 +3,4 @@ pub mod Books
 pub mod Laws
 pub mod Once
 pub mod Rankings
+pub mod Rolls

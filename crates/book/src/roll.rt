@@ -1,8 +1,7 @@
 // A book that keeps its bids in a run of slots.
 ghost use mathlib.Core.Path.{_≡_};
-ghost use mathlib.Core.List.{[]};
-ghost use Prim.Native.Nat.{_≤_, min};
-ghost use Rattle.std.specs.Of.Vec.{vec-items, vec-len, vec-cap};
+ghost use Prim.Native.Nat.{_≤_};
+ghost use Rattle.std.specs.Of.Vec.{vec-items, vec-cap};
 ghost use Rattle.book.specs.Books.{Sound};
 ghost use Rattle.book.specs.Once.{soundIn};
 use crate::bid::Bid;
@@ -17,7 +16,9 @@ use crate::traits::Book;
 use crate::traits::PricedBook;
 use fault::Fault;
 
-// No more slots than these are used, so that the units of all bids add up in 64 bits.
+mod empty;
+
+// A roll uses no more slots than these, so the units of all its bids add up in 64 bits.
 pub const MAX_SLOTS: usize = 65_536;
 
 // The live bids, in order of number, in memory that was handed in: there is always a slot for each bid up to the capacity.
@@ -31,19 +32,7 @@ pub struct Roll {
 }
 
 impl Roll {
-    // An empty roll over the slots, whatever they held.
-    pub fn new(mut slots: Vec<Bid>) -> Roll
-        ensures empty { λ r. ⌜ vec-items (r .bids) ≡ [] ⌝ }
-        ensures capacity { λ r. ⌜ r .capacity ≡ min (vec-len slots) 65536 ⌝ }
-    {
-        let capacity = slots.len().min(MAX_SLOTS);
-        slots.clear();
-        Roll {
-            bids: slots,
-            capacity,
-        }
-    }
-
+    // The live bids.
     fn live(&self) -> &[Bid]
         ensures value { λ r. ⌜ now r ≡ vec-items (now (self .entry) .bids) ⌝ }
         ensures sound { λ r. ⌜ Sound (now r) (now (self .entry) .capacity) 19999999 ⌝ }

@@ -1,13 +1,12 @@
 // Passes over a run of bids.
 ghost use mathlib.Core.Path.{_≡_};
-ghost use mathlib.Core.Bool.{false, not};
+ghost use mathlib.Core.Bool.{false};
 ghost use Prim.Native.Nat.{_<_, _≤_};
-ghost use lib.Dec.{eqb, leb};
 ghost use lib.ListN.{length, getD};
 ghost use Rattle.std.specs.Options.{Cases as BySome};
 ghost use Rattle.std.specs.shelf.Text.{sameBytes};
 ghost use Rattle.book.specs.declared.bid.Bid.{Bid as TheBid};
-ghost use Rattle.book.specs.Books.{Ascend, Sound, anyBid, lastNumber, addAnswer, numberWith, unitsFrom, limitTo};
+ghost use Rattle.book.specs.Books.{Ascend, Sound, hasNumber, aboveAll, lastNumber, addAnswer, numberWith, unitsFrom, limitTo};
 use crate::bid::Bid;
 use fault::Fault;
 
@@ -66,7 +65,7 @@ pub(crate) fn number_with(bids: &[Bid], token: &[u8; 14]) -> Option<u64>
 // The place of the bid with a number.
 pub(crate) fn place(bids: &[Bid], number: u64) -> Option<usize>
     requires { ⌜ Ascend (now bids) ⌝ }
-    ensures { λ r. ⌜ BySome r (anyBid (λ b. eqb (b .number) number) (now (bids .entry)) ≡ false) (λ k. (k < length (now (bids .entry))) × ((d : TheBid) → getD (now (bids .entry)) k d .number ≡ number)) ⌝ }
+    ensures { λ r. ⌜ BySome r (hasNumber number (now (bids .entry)) ≡ false) (λ k. (k < length (now (bids .entry))) × ((d : TheBid) → getD (now (bids .entry)) k d .number ≡ number)) ⌝ }
 {
     let mut low = 0;
     let mut high = bids.len();
@@ -100,7 +99,7 @@ fn last_number(bids: &[Bid]) -> u64
 // Whether a number is above every bid's: above the last one's, where there is one.
 fn is_above_all(number: u64, bids: &[Bid]) -> bool
     requires { ⌜ Ascend (now bids) ⌝ }
-    ensures { λ r. ⌜ r ≡ not (anyBid (λ b. leb number (b .number)) (now (bids .entry))) ⌝ }
+    ensures { λ r. ⌜ r ≡ aboveAll number (now (bids .entry)) ⌝ }
 {
     bids.is_empty() || last_number(bids) < number
 }
