@@ -1,4 +1,6 @@
 // Why something is sent back: a cause for each refusal of the box, with its number, its layer and what stands beside it.
+#![tactic(auto)]
+
 ghost use Rattle.std.specs.Prelude.{◌≡◌};
 ghost use Rattle.fault.specs.Causes.{cause_of, name_of, words_of};
 

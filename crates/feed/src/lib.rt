@@ -1,4 +1,6 @@
 // A window on a stream of packets: it holds the bytes that were read and not yet taken, never the whole stream.
+#![tactic(auto)]
+
 ghost use Rattle.std.specs.Prelude.{◌≤◌, vec_len};
 
 use fault::Fault;

@@ -1,4 +1,6 @@
 // Lists a captured stream: every packet and every message in it, or why it is refused.
+#![tactic(auto)]
+
 use feed::{Front, Window};
 use std::io;
 use std::io::{BufWriter, Read, Write};

@@ -1,5 +1,7 @@
 // Examples of what the libraries do, as tests.
 
+#![tactic(auto)]
+
 #[cfg(test)]
 mod books;
 #[cfg(test)]

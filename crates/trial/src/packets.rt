@@ -14,7 +14,7 @@ fn blocks_by_place(rt: HostRuntime) -> Result<(), Fail> {
     assert_eq!(rt; rest.len(), 0);
     let first = packet.block(0)?;
     assert_eq!(rt; first.number, 7);
-    assert_eq!(rt; first.bytes, b"T");
+    assert_eq!(rt; first.bytes, b"T".as_slice());
     let second = packet.block(1)?;
     assert_eq!(rt; second.number, 8);
     assert_eq!(rt; second.bytes.len(), 0);

@@ -41,7 +41,7 @@ fn told_as_soon_as_it_is_there(rt: HostRuntime) -> Result<(), Fail> {
     assert_eq!(rt; window.pending().len(), 20);
     match window.front() {
         Front::Whole { packet, size } => {
-            assert_eq!(rt; packet.session(), b"SESSION001");
+            assert_eq!(rt; packet.session(), b"SESSION001".as_slice());
             assert_eq!(rt; size, 20);
         }
         _ => return Err(Fail::new("the heartbeat is there")),

@@ -7,4 +7,4 @@ returns c =
     let w = c.args.self.now in
     let xs = vec_items w.bytes in
     let within : w.start ≤ length xs = omega (arith, w.bytes.ok.0, w.within) in
-    record { items = drop_appended _ xs _ _ w.start within c.extend-from-slice.ensures.items; same = refl }
+    record { items = drop_appended _ xs _ _ w.start within c.extend_from_slice.ensures.items; same = refl }

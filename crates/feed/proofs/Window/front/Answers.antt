@@ -3,8 +3,8 @@ use Rattle.feed.specs.Windows.{pending_in}
 use Rattle.feed.proofs.Sights.{whole_there, over_shown}
 use Rattle.feed.proofs.Window.front.Goals as goal
 
-pub returns-then-is-empty : goal.returns-then-is-empty
-returns-then-is-empty c =
+pub returns-then-is_empty : goal.returns-then-is_empty
+returns-then-is_empty c =
     let v = ap length c.pending-pending.ensures.value in
     let none : length (pending_in c.args.self.now) ≡ 0 = search rules in
     let o = over_shown _ _ c.if-self.true none in

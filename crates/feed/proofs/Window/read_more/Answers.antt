@@ -3,5 +3,5 @@ use Rattle.feed.proofs.Window.read_more.Goals as goal
 
 pub returns : goal.returns
 returns g c =
-    let a = c.in-ok-append.ensures in
+    let a = c.in_ok-append.ensures in
     record { kept = (_, a.items); more = ap length a.items ∙ simp length-append (search rules); same = a.same }

@@ -7,4 +7,4 @@ use Rattle.book.proofs.roll.Roll.live.Goals as goal
 pub returns : goal.returns
 returns c =
     let s = c.args.self.now in
-    record { value = c.as-slice.ensures.value; sound = subst (λ (xs : List Bid). Sound xs s.capacity 19999999) (sym c.as-slice.ensures.value) (sound_in _ _ _ s.kept) }
+    record { value = c.as_slice.ensures.value; sound = subst (λ (xs : List Bid). Sound xs s.capacity 19999999) (sym c.as_slice.ensures.value) (sound_in _ _ _ s.kept) }

@@ -2,18 +2,18 @@ use Rattle.std.proofs.Common.{vec_items, refl, arith}
 use Rattle.book.proofs.Keeps.{none_removed, one_removed, sound_after_remove}
 use Rattle.book.proofs.roll.RollBook.remove.Goals as goal
 
-pub returns-in-default : goal.returns-in-default
-returns-in-default c =
+pub returns-in_default : goal.returns-in_default
+returns-in_default c =
     let s = c.args.self.now in
     let xs = vec_items s.bids in
-    let none = none_removed c.live.result.now xs xs s.capacity 19999999 c.live.ensures.value c.live.ensures.sound c.args.number c.in-default.ensures in
+    let none = none_removed c.live.result.now xs xs s.capacity 19999999 c.live.ensures.value c.live.ensures.sound c.args.number c.in_default.ensures in
     record { answer = none; after = refl; capacity = refl; top = refl }
 
-pub invariant-of-self : goal.invariant-of-self
-invariant-of-self c =
+pub invariant_of-self : goal.invariant_of-self
+invariant_of-self c =
     let s = c.args.self.now in
     let after = sound_after_remove c.live.result.now (vec_items s.bids) (vec_items c.remove.new.self) s.capacity 19999999 c.live.ensures.value c.live.ensures.sound c.args.number c.in-Some.at c.in-Some.ensures.0 c.remove.ensures.items in
-    (omega (arith, s.reserved, c.remove.ensures.capacity), (s.few, (∣ after ∣₁, tt)))
+    record { reserved = omega (arith, s.reserved, c.remove.ensures.capacity); few = s.few; kept = ∣ after ∣₁ }
 
 pub returns : goal.returns
 returns c =
