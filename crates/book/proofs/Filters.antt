@@ -1,6 +1,6 @@
 -- Filters of a list: sums and extremes of what passes a test, and a filter that drops one place.
 use Rattle.std.proofs.Common.{◌≡◌, ℕ, zero, suc, ◌+◌, ◌<◌, ◌≤◌, min, max, Bool, true, false, cond, ltb, ◌⊎◌, List, [], ◌∷◌, map, length, get_or, Some, None, fold, sum_by, filter, Option, sym, refl, ap, ◌∙◌, inl, inr, ⊎_elim, zero-add, arith}
-use Rattle.std.specs.List.{remove, AllByRecursion as All}
+use Rattle.std.specs.List.{remove, AllByRecursion}
 use Rattle.std.proofs.ByRecursion.{All-map, all_kept_by, All-from_get_or}
 use Rattle.std.proofs.lemmas.List.Sums.{sum_by-cons}
 use Rattle.std.proofs.lemmas.Bool.{cases_lt, cond-true, cond-false, lt-ltb}
@@ -22,8 +22,8 @@ Any P (x ∷ xs) = P x ⊎ Any P xs
 
 -- r is one of the numbers and stands in R to each, or there are none
 abbrev pub Picked : (ℕ → ℕ → Type 0) → List ℕ → Option ℕ → Type 0
-Picked R ns None = All (λ _. ⊥) ns
-Picked R ns (Some m) = Any (λ n. n ≡ m) ns × All (R m) ns
+Picked R ns None = AllByRecursion (λ _. ⊥) ns
+Picked R ns (Some m) = Any (λ n. n ≡ m) ns × AllByRecursion (R m) ns
 
 module _ (op : ℕ → ℕ → ℕ) (R : ℕ → ℕ → Type 0) (self : (a : ℕ) → R a a) (trans : (a b c : ℕ) → R a b → R b c → R a c)
     (left : (a b : ℕ) → R (op a b) a) (right : (a b : ℕ) → R (op a b) b) (either : (a b : ℕ) → (op a b ≡ a) ⊎ (op a b ≡ b)) where
@@ -49,7 +49,7 @@ greatest_picks (n ∷ ns) = folded_picks max (λ k j. j ≤ k) (λ a. omega arit
 abbrev pub unless0 : ℕ → Option ℕ
 unless0 n = cond (ltb 0 n) (Some n) None
 
-greatest_from_0 : (ns : List ℕ) → All (λ n. 1 ≤ n) ns → greatest ns ≡ unless0 (fold max 0 ns)
+greatest_from_0 : (ns : List ℕ) → AllByRecursion (λ n. 1 ≤ n) ns → greatest ns ≡ unless0 (fold max 0 ns)
 greatest_from_0 [] h = refl
 greatest_from_0 (n ∷ ns) h =
     let e : max 0 n ≡ n = omega arith in
@@ -67,18 +67,18 @@ max_kept : {X : Type 0} (f : X → ℕ) (q : X → Bool) (xs : List X) (a : ℕ)
 max_kept f q [] a = refl
 max_kept f q (x ∷ xs) a = max_kept_at f (λ y. cond (q y) (f y) 0) a x xs (filter q xs) (q x) (max_kept f q xs)
 
-pub greatest_kept : {X : Type 0} (f : X → ℕ) (q : X → Bool) (xs : List X) → All (λ x. 1 ≤ f x) xs → greatest (map f (filter q xs)) ≡ unless0 (fold (λ m x. max m (cond (q x) (f x) 0)) 0 xs)
+pub greatest_kept : {X : Type 0} (f : X → ℕ) (q : X → Bool) (xs : List X) → AllByRecursion (λ x. 1 ≤ f x) xs → greatest (map f (filter q xs)) ≡ unless0 (fold (λ m x. max m (cond (q x) (f x) 0)) 0 xs)
 greatest_kept f q xs h = greatest_from_0 (map f (filter q xs)) (All-map (λ n. 1 ≤ n) f (filter q xs) (all_kept_by q (λ x. 1 ≤ f x) xs h)) ∙ ap unless0 (max_kept f q xs 0)
 
 -- ---- the least
-pub folded_min : (n : ℕ) (ns : List ℕ) → All (λ m. n ≤ m) ns → fold min n ns ≡ n
+pub folded_min : (n : ℕ) (ns : List ℕ) → AllByRecursion (λ m. n ≤ m) ns → fold min n ns ≡ n
 folded_min n [] h = refl
 folded_min n (m ∷ ns) h =
     let e : min n m ≡ n = omega (arith, h.0) in
     ap (λ k. fold min k ns) e ∙ folded_min n ns h.1
 
 -- ---- a filter that keeps all, or all but one place
-pub kept_all : {X : Type 0} (q : X → Bool) (xs : List X) → All (λ x. q x ≡ true) xs → filter q xs ≡ xs
+pub kept_all : {X : Type 0} (q : X → Bool) (xs : List X) → AllByRecursion (λ x. q x ≡ true) xs → filter q xs ≡ xs
 kept_all q [] h = refl
 kept_all q (x ∷ xs) h = cond-true _ _ _ h.0 ∙ ap (λ ys. x ∷ ys) (kept_all q xs h.1)
 

@@ -1,6 +1,6 @@
 -- What adding and removing answer, and that they keep a book sound.
 use Rattle.std.proofs.Common.{◌≡◌, ℕ, suc, ◌+◌, ◌<◌, ◌≤◌, false, not, eqb, ltb, List, [], ◌∷◌, ◌++◌, length, get_or, take, drop, Ok, Err, Result, sym, ap, ◌∙◌, subst, ⊎_elim, arith}
-use Rattle.std.specs.List.{remove, AllByRecursion as All}
+use Rattle.std.specs.List.{remove, AllByRecursion}
 use Rattle.std.proofs.lemmas.List.{get_or_append_left, get_or_push, length_push}
 use Rattle.std.proofs.lemmas.List.Edits.{length-remove, get_or-remove_below, get_or-remove_above}
 use Rattle.std.proofs.ByRecursion.{All-push, All-append, All-get_or, All-take, All-drop}
@@ -20,7 +20,7 @@ module _ (bids : List Bid) (capacity top : ℕ) (bid : Bid) where
   -- what an accepted bid shows
   pub record Accepted : Type 0 where
     pub low : bid.limit ≤ top
-    pub above : All (λ b. b.number < bid.number) bids
+    pub above : AllByRecursion (λ b. b.number < bid.number) bids
     pub room : length bids ≡ capacity → ⊥
 
   refused : (f : Fault) → ◌≡◌ {A = Result (Unit {0}) Fault} (Err f) (Ok tt) → ⊥
@@ -38,7 +38,7 @@ module _ (bids : List Bid) (capacity top : ℕ) (bid : Bid) where
       (cases_Bool (not (above_all bid.number bids))))
       (cases_Bool (ltb top bid.limit))
 
-ascend_push : (bids : List Bid) (bid : Bid) → Ascend bids → All (λ b. b.number < bid.number) bids → Ascend (bids ++ bid ∷ [])
+ascend_push : (bids : List Bid) (bid : Bid) → Ascend bids → AllByRecursion (λ b. b.number < bid.number) bids → Ascend (bids ++ bid ∷ [])
 ascend_push bids bid up above i j d l m =
     let n = length_push bids bid in
     let number : Bid → ℕ = λ b. b.number in
@@ -94,7 +94,7 @@ ascend_removed bids at here up i j d l m =
     (cases_lt i at))
     (cases_lt j at)
 
-all_removed : (P : Bid → Type 0) (bids : List Bid) (at : ℕ) → All P bids → All P (remove bids at)
+all_removed : (P : Bid → Type 0) (bids : List Bid) (at : ℕ) → AllByRecursion P bids → AllByRecursion P (remove bids at)
 all_removed P bids at h = All-append P (take at bids) (drop (suc at) bids) (All-take P at bids h) (All-drop P (suc at) bids h)
 
 pub sound_removed : (bids : List Bid) (capacity top at : ℕ) → at < length bids → Sound bids capacity top → Sound (remove bids at) capacity top

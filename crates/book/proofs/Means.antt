@@ -1,6 +1,6 @@
 -- The answers of a book mean what they say.
 use Rattle.std.proofs.Common.{◌≡◌, ℕ, suc, ◌+◌, ◌<◌, ◌≤◌, Bool, true, cond, eqb, leb, ◌⊎◌, List, [], ◌∷◌, map, Some, None, sum_by, filter, Option, refl, ap, ◌∙◌, subst, inl, inr, ⊎_elim, arith}
-use Rattle.std.specs.List.{AllByRecursion as All}
+use Rattle.std.specs.List.{AllByRecursion}
 use Rattle.std.specs.Str.{bytes_eq}
 use Rattle.std.proofs.ByRecursion.{All-weaker}
 use Rattle.std.proofs.lemmas.Slice.Eq.{bytes_eq-Decides}
@@ -39,11 +39,11 @@ units_none p h (b ∷ bids) = ap (sum_by (λ (x : Bid). x.units)) (cond-false _ 
 
 -- ---- from what a test keeps back to the bids
 module _ (f : Bid → ℕ) (q : Bid → Bool) where
-  all_back : (P : ℕ → Type 0) (bids : List Bid) → All P (map f (filter q bids)) → All (λ b. q b ≡ true → P (f b)) bids
+  all_back : (P : ℕ → Type 0) (bids : List Bid) → AllByRecursion P (map f (filter q bids)) → AllByRecursion (λ b. q b ≡ true → P (f b)) bids
   all_back P [] h = tt
   all_back P (b ∷ bids) h = ⊎_elim
-      (λ t. let h' = subst (λ (ys : List Bid). All P (map f ys)) (cond-true _ _ _ t) h in ((λ _. h'.0), all_back P bids h'.1))
-      (λ e. ((λ t. absurd (both_ways _ e t)), all_back P bids (subst (λ (ys : List Bid). All P (map f ys)) (cond-false _ _ _ e) h)))
+      (λ t. let h' = subst (λ (ys : List Bid). AllByRecursion P (map f ys)) (cond-true _ _ _ t) h in ((λ _. h'.0), all_back P bids h'.1))
+      (λ e. ((λ t. absurd (both_ways _ e t)), all_back P bids (subst (λ (ys : List Bid). AllByRecursion P (map f ys)) (cond-false _ _ _ e) h)))
       (cases_Bool (q b))
 
   any_back : (P : ℕ → Type 0) (bids : List Bid) → Any P (map f (filter q bids)) → Any (λ b. (q b ≡ true) × P (f b)) bids

@@ -1,6 +1,6 @@
 -- Steps of the passes over a run of bids: x is read at the place i.
 use Rattle.std.proofs.Common.{◌≡◌, ℕ, zero, suc, ◌+◌, ◌-◌, ◌<◌, ◌≤◌, max, Bool, true, false, cond, ◌&&◌, eqb, ltb, leb, List, [], ◌∷◌, map, length, get_or, take, drop, Some, Decides, fold, sum_by, filter, sym, refl, ap, ◌∙◌, ⊎_elim, arith}
-use Rattle.std.specs.List.{HoldsAt, AllByRecursion as All}
+use Rattle.std.specs.List.{HoldsAt, AllByRecursion}
 use Rattle.std.specs.Str.{bytes_eq}
 use Rattle.std.proofs.ByRecursion.{All-from_get_or, All-get_or, all_kept_by, All-map, Decides-by_and}
 use Rattle.std.proofs.lemmas.List.{get_or_default, get_or-drop, at_drop_more, length-drop, nil_from_length, take_all}
@@ -33,7 +33,7 @@ highest p bids = fold (λ m b. max m (under p b)) 0 bids
 pub highest_more : (p : ℕ) (xs : List Bid) (i : ℕ) (x : Bid) → i < length xs → x ≡ get_or xs i x → highest p (take (i + 1) xs) ≡ max (highest p (take i xs)) (under p x)
 highest_more p xs i x l is = fold_more (λ m b. max m (under p b)) 0 xs i x l ∙ ap (λ (y : Bid). max (highest p (take i xs)) (under p y)) (sym is)
 
-all_limits : (bids : List Bid) → All (λ b. 1 ≤ b.limit) bids
+all_limits : (bids : List Bid) → AllByRecursion (λ b. 1 ≤ b.limit) bids
 all_limits [] = tt
 all_limits (b ∷ bids) = (b.fit.2, all_limits bids)
 
@@ -52,7 +52,7 @@ module _ (t : List ℕ) (xs : List Bid) (i : ℕ) (x : Bid) (l : i < length xs) 
   pub token_here : Ascend xs → bytes_eq x.token t ≡ true → number_with t (drop i xs) ≡ Some x.number
   token_here up e =
       let rest = drop (i + 1) xs in
-      let later : All (λ b. x.number ≤ b.number) rest = All-from_get_or (λ b. x.number ≤ b.number) rest x (λ k h.
+      let later : AllByRecursion (λ b. x.number ≤ b.number) rest = All-from_get_or (λ b. x.number ≤ b.number) rest x (λ k h.
       let q : i + 1 + k < length xs = omega (arith, length-drop (i + 1) xs) in
       let u = up i (i + 1 + k) x (omega arith) q in
       let at = ap (λ (b : Bid). b.number) (get_or-drop (i + 1) xs k x) in
@@ -88,7 +88,7 @@ has_none n (b ∷ bids) h = ⊎_elim
     (λ f. f)
     (cases_Bool (has_number n (b ∷ bids)))
 
-pub above_decides : (n : ℕ) (bids : List Bid) → Decides (above_all n bids) (All (λ b. b.number < n) bids)
+pub above_decides : (n : ℕ) (bids : List Bid) → Decides (above_all n bids) (AllByRecursion (λ b. b.number < n) bids)
 above_decides n bids = Decides-by_and (λ b. ltb b.number n) (λ b. b.number < n) (above_all n) (λ b. Decides-ltb b.number n) refl (λ _ _. refl) bids
 
 -- ---- where numbers ascend, those before a place are lower, and those behind it higher

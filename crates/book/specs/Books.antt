@@ -1,6 +1,6 @@
 -- What a book means, over its live bids in order of number, its capacity and its top.
 use Rattle.std.specs.Prelude.{ℕ, ◌<◌, ◌≤◌, min, max, Bool, true, false, not, ◌&&◌, ◌||◌, List, [], ◌∷◌, ◌++◌, map, length, Some, None, Ok, Err, fold, sum_by, filter, Option, Result, ◌==◌, nat_le, nat_lt, slice_index_or}
-use Rattle.std.specs.List.{AllByRecursion as All}
+use Rattle.std.specs.List.{AllByRecursion}
 use Rattle.std.specs.Str.{bytes_eq}
 use Rattle.fault.specs.declared.Fault.{Fault}
 use Rattle.fault.specs.declared.Fault.TheVariants.{AboveTop, BookFull, NotAboveLast, NotFound}
@@ -14,7 +14,7 @@ Ascend bids = (i j : ℕ) (d : Bid) → i < j → j < length bids → (slice_ind
 -- what holds of every book at all times
 pub record Sound (bids : List Bid) (capacity top : ℕ) : Type 0 where
   pub ascend : Ascend bids
-  pub limits : All (λ b. b.limit ≤ top) bids
+  pub limits : AllByRecursion (λ b. b.limit ≤ top) bids
   pub count : length bids ≤ capacity
   pub highest : top ≤ 19999999
 
