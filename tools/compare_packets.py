@@ -215,7 +215,7 @@ def ending(status: int | None) -> str:
 
 
 def check_closed_output(state: Comparison) -> None:
-    """A program whose output is closed early, while a long stream is fed, must end, and not with status 0."""
+    """A program whose output is closed early, while a long stream is fed, must end with status 1."""
     with tempfile.TemporaryFile() as source, tempfile.TemporaryFile() as errors:
         source.write(b"".join(sized_packet(1_472, first) for first in range(1_500)))
         source.seek(0)
@@ -225,8 +225,8 @@ def check_closed_output(state: Comparison) -> None:
                 os.read(process.stdout.fileno(), 100)
             process.stdout.close()
             status = ended(process, CLOSED_LIMIT)
-    good = status is not None and status != 0
-    print(f"closed output: {ending(status)}{'' if good else ', expected an end other than status 0'}")
+    good = status == 1
+    print(f"closed output: {ending(status)}{'' if good else ', expected status 1'}")
     state.problems += not good
 
 
