@@ -1,5 +1,6 @@
 -- Every cause of a refusal: its number, its layer, what stands beside it, and its words. One line for each case.
-use Rattle.std.specs.Prelude.{ℕ, List, codes}
+use Rattle.std.specs.Prelude.{ℕ, List, ◌++◌, codes}
+use Rattle.std.specs.Fmt.{decimal}
 use Rattle.fault.specs.declared.Layer.{Layer}
 use Rattle.fault.specs.declared.Layer.TheVariants.{Packet, Message, Book, Day}
 use Rattle.fault.specs.declared.Fault.{Fault}
@@ -72,3 +73,7 @@ words_of (ValueOutOfRange value) = codes "value 0 or above 20000000000000"
 words_of (BookUnfit count) = codes "book not empty, capacity 0 or above 4096, or top 0"
 words_of (WrongStage stage) = codes "dealing when not due, or calling off when not called off"
 words_of (TooFewPlaces live) = codes "fewer places for fills than live bids"
+
+-- a fault as it is shown: number, layer, what stands beside it, words
+abbrev pub text_of : Fault → List ℕ
+text_of f = decimal (cause_of f).number ++ codes " " ++ name_of (cause_of f).layer ++ codes " " ++ decimal (cause_of f).beside ++ codes ": " ++ words_of f

@@ -4,6 +4,9 @@
 ghost use Rattle.std.specs.Prelude.{◌≡◌};
 ghost use Rattle.fault.specs.Causes.{cause_of, name_of, words_of};
 
+use std::error::Error;
+use std::fmt;
+
 // Where a refusal arose.
 #[derive(Clone, Copy, PartialEq, Eq, Debug)]
 pub enum Layer {
@@ -26,6 +29,16 @@ impl Layer {
     }
 }
 
+impl fmt::Display for Layer {
+    ghost use Rattle.std.specs.Prelude.{Some};
+
+    ghost output = { λ l. Some (name_of l) };
+
+    fn fmt<W: fmt::Write>(&self, f: &mut fmt::Formatter<W>) -> fmt::Result {
+        f.write_str(self.name())
+    }
+}
+
 // A refusal, carrying what stands beside its cause. `number` is the message's number unless a comment says otherwise.
 #[derive(Clone, Copy, PartialEq, Eq, Debug)]
 pub enum Fault {
@@ -36,6 +49,7 @@ pub enum Fault {
     BlockPastLimit { offset: usize },
     NumberTooLarge { first: u64 },
     NoSuchBlock { blocks: u16 },
+    // the stage's number, 0 to 3. The stages are those of the day, above this crate; an enum would take fewer values
     NotRunning { stage: u8 },
     NotNext { next: u64 },
     Malformed { number: u64 },
@@ -55,6 +69,7 @@ pub enum Fault {
     NotReduced { number: u64 },
     ValueOutOfRange { value: u64 },
     BookUnfit { count: usize },
+    // the stage's number, as above
     WrongStage { stage: u8 },
     TooFewPlaces { live: usize },
 }
@@ -173,3 +188,21 @@ impl Fault {
         }
     }
 }
+
+// The cause's number, its layer, what stands beside it, and the cause in words.
+impl fmt::Display for Fault {
+    ghost use Rattle.std.specs.Prelude.{Some};
+    ghost use Rattle.fault.specs.Causes.{text_of};
+
+    ghost output = { λ f. Some (text_of f) };
+
+    fn fmt<W: fmt::Write>(&self, f: &mut fmt::Formatter<W>) -> fmt::Result {
+        let number = self.number();
+        let layer = self.layer();
+        let beside = self.beside();
+        let words = self.words();
+        write!(f, "{number} {layer} {beside}: {words}")
+    }
+}
+
+impl Error for Fault {}
