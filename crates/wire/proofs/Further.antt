@@ -1,7 +1,8 @@
 -- Bytes that follow change no answer, once 1,474 are at hand.
-use Rattle.std.proofs.Common.{◌≡◌, ℕ, zero, suc, ◌+◌, ◌^◌, ◌<◌, ◌≤◌, Bool, true, false, cond, ltb, leb, List, ◌++◌, length, drop, Some, None, Option, refl, inl, inr, arith}
+use Rattle.std.proofs.Common.{◌≡◌, ℕ, zero, suc, ◌+◌, ◌^◌, ◌<◌, ◌≤◌, Bool, true, false, cond, ltb, leb, List, ◌++◌, length, drop, Some, None, Option, sym, refl, inl, inr, arith}
 use Rattle.std.proofs.lemmas.List.{get_or_append_left, length-append, drop-append-le, take-append-le, length-drop}
-use Rattle.std.proofs.lemmas.Bool.{le-ltb, lt-ltb, cases_lt}
+use Rattle.std.proofs.lemmas.Bool.{le-ltb, lt-ltb, cases_lt, true≢false}
+use Rattle.std.proofs.lemmas.Option.{none-some}
 use Rattle.fault.specs.declared.Fault.{Fault}
 use Rattle.fault.specs.declared.Fault.TheVariants.{BlockPastEnd, BlockPastLimit}
 use Rattle.wire.specs.Bytes.{field, value}
@@ -21,12 +22,6 @@ abbrev Lasting : Option Fault → Type 0
 Lasting None = Unit {0}
 Lasting (Some f) = curable f ≡ false
 
-true_false : true ≡ false → ⊥
-true_false e = let z : ◌≡◌ {A = ℕ} 0 1 = cc in omega arith
-
-some_none : (f : Fault) → Some f ≡ None → ⊥
-some_none f e = let z : ◌≡◌ {A = ℕ} 0 1 = cc in omega arith
-
 -- where a block ends is judged alike within n bytes and within more
 same_end : (n n' at size : ℕ) → at + 2 ≤ n → n ≤ n'
     → Lasting (cond (ltb n (at + 2)) (Some (BlockPastEnd at)) (cond (ltb 1472 (at + 2 + size)) (Some (BlockPastLimit at)) (cond (ltb n (at + 2 + size)) (Some (BlockPastEnd at)) None)))
@@ -39,7 +34,7 @@ same_end n n' at size l m h =
       | inl past ↦ rw (c, c', lt-ltb 1472 (at + 2 + size) past)
       | inr within ↦
           elim (cases_lt n (at + 2 + size)) [
-            | inl cut ↦ absurd (true_false (rw (c, le-ltb 1472 (at + 2 + size) within, lt-ltb n (at + 2 + size) cut) at h))
+            | inl cut ↦ absurd (true≢false (rw (c, le-ltb 1472 (at + 2 + size) within, lt-ltb n (at + 2 + size) cut) at h))
             | inr there ↦ rw (c, c', le-ltb 1472 (at + 2 + size) within, le-ltb n (at + 2 + size) there, le-ltb n' (at + 2 + size) (omega arith))
           ]
     ]
@@ -61,7 +56,7 @@ module _ (bs more : List ℕ) where
   same_block : (at : ℕ) → Lasting (block_fault bs at) → block_fault (bs ++ more) at ≡ block_fault bs at
   same_block at h =
       elim (cases_lt (length bs) (at + 2)) [
-        | inl cut ↦ absurd (true_false (rw (lt-ltb (length bs) (at + 2) cut) at h))
+        | inl cut ↦ absurd (true≢false (rw (lt-ltb (length bs) (at + 2) cut) at h))
         | inr there ↦ rw (same_value at 2 there) (same_end (length bs) (length (bs ++ more)) at (value at 2 bs) there (omega (arith, length-append bs more)) h)
       ]
 
@@ -75,7 +70,7 @@ module _ (bs more : List ℕ) where
       let a = s.1 e in
       let b = same_block (block_at bs k) (rw e at h) in
       (rw (s.0, e, a) b, λ n. (let here = (both_none (first_fault bs k) (block_fault bs (block_at bs k)) n).1 in let l = (ends_within bs (block_at bs k) here).1 in rw (a, same_value (block_at bs k) 2 (omega arith))))
-  same_more k (Some f) e ih h = (rw ((ih (rw e at h)).0, e), λ n. absurd (some_none f (rw e at n)))
+  same_more k (Some f) e ih h = (rw ((ih (rw e at h)).0, e), λ n. absurd (none-some f (sym (rw e at n))))
 
   same_faults : (k : ℕ) → Lasting (first_fault bs k) → Same k
   unfolding Same
@@ -119,7 +114,7 @@ module _ (bs more : List ℕ) where
 header_there : (bs : List ℕ) → Lasting (packet_fault bs) → 20 ≤ length bs
 header_there bs h =
     elim (cases_lt (length bs) 20) [
-      | inl short ↦ absurd (true_false (rw (lt-ltb (length bs) 20 short) at h))
+      | inl short ↦ absurd (true≢false (rw (lt-ltb (length bs) 20 short) at h))
       | inr there ↦ there
     ]
 

@@ -2,3 +2,4 @@ mod Walks
 mod Further
 mod Backs
 mod Onlys
+mod Numbers

@@ -1,13 +1,13 @@
 -- What is read as a packet is laid out as one.
 use Rattle.std.proofs.Common.{◌≡◌, ℕ, zero, suc, ◌+◌, ◌<◌, ◌≤◌, List, ◌∷◌, ◌++◌, length, get_or, drop, Some, None, Ok, Option, Result, sym, refl, ap, ◌∙◌, subst, arith, take-suc}
 use lib.Arith.{digits_div, digits_mod}
-use Rattle.std.proofs.lemmas.List.{append_assoc, length-append, take-append-drop, drop-drop, get_or-drop, length-drop, length-take-le}
+use Rattle.std.proofs.lemmas.List.{append_assoc, length-append, take-append-drop, drop-drop, get_or-drop, length-drop, length-take-le, length-map}
 use Rattle.fault.specs.declared.Fault.{Fault}
 use Rattle.wire.specs.Bytes.{field, value}
 use Rattle.wire.specs.Packets.{Taken, first_of, count_of, blocks_of, block_at, first_fault, message_at, messages_from, taken_of, packet_fault, unless, packet_of}
 use Rattle.wire.specs.Written.{bytes_of, blocks_bytes, numbered_from, plain, LaidOut, Exactly}
 use Rattle.wire.proofs.Backs.{four_parts, reads_back}
-use Rattle.wire.proofs.Walks.{none_before, ends_within, ends_by, lies_by, faultless}
+use Rattle.wire.proofs.Walks.{length-messages, none_before, ends_within, ends_by, lies_by, faultless}
 
 -- a field and what comes after it
 cut : (bs : List ℕ) (at n : ℕ) → drop at bs ≡ field at n bs ++ drop (at + n) bs
@@ -17,8 +17,7 @@ length-field : (bs : List ℕ) (from n : ℕ) → from + n ≤ length bs → len
 length-field bs from n l = let s : n ≤ length (drop from bs) = simp length-drop (omega arith) in length-take-le n (drop from bs) s
 
 length-plain : (bs : List ℕ) (k n : ℕ) → length (plain (messages_from bs k n)) ≡ n
-length-plain bs k zero = refl
-length-plain bs k (suc n) = ap suc (length-plain bs (suc k) n)
+length-plain bs k n = length-map (messages_from bs k n) (λ m. m.bytes) ∙ length-messages bs k n
 
 numbered_plain : (bs : List ℕ) (n k number : ℕ) → number ≡ first_of bs + k → messages_from bs k n ≡ numbered_from number (plain (messages_from bs k n))
 numbered_plain bs zero k number e = refl

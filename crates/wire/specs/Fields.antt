@@ -1,12 +1,17 @@
 -- Which values the fields of a message may have, and what they mean; None is a value that is not allowed.
-use Rattle.std.specs.Prelude.{ℕ, ◌/◌, ◌%◌, cond, ◌&&◌, ◌||◌, Some, None, Option, ◌==◌, nat_le}
-use Rattle.std.specs.Option.{option_map}
+use Rattle.std.specs.Prelude.{ℕ, ◌/◌, ◌%◌, cond, ◌&&◌, ◌||◌, Some, None, Option, Result, ◌==◌, nat_le}
+use Rattle.std.specs.Option.{option_map, ok_or}
 use Rattle.wire.specs.declared.message.Side.{Side}
 use Rattle.wire.specs.declared.message.Side.TheVariants.{Buy, Sell}
 use Rattle.wire.specs.declared.message.State.{State}
 use Rattle.wire.specs.declared.message.State.TheVariants.{Halted, Trading}
 use Rattle.wire.specs.declared.message.Terms.{Terms}
 use Rattle.wire.specs.declared.message.Terms.TheVariants.{Bid, Sale}
+use Rattle.wire.specs.declared.message.NotAllowed.{NotAllowed}
+
+-- the value, or the error that says there is none
+abbrev pub or_not_allowed : {X : Type 0} → Option X → Result X NotAllowed
+or_not_allowed o = ok_or o (record {})
 
 -- B a bid, S a sale
 abbrev pub side_of : ℕ → Option Side

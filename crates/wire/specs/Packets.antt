@@ -1,5 +1,6 @@
 -- The packet at the front of some bytes: session 10, first number 8, count 2, then blocks, each a length of 2 and a message.
 use Rattle.std.specs.Prelude.{◌≡◌, ℕ, zero, suc, ◌+◌, ◌^◌, Bool, false, cond, ◌||◌, List, [], ◌∷◌, ◌++◌, length, drop, Some, None, Ok, Err, Option, Result, ◌==◌, nat_le, nat_lt}
+use Rattle.std.specs.Option.{option_or}
 use Rattle.fault.specs.Causes.{cause_of}
 use Rattle.fault.specs.declared.Fault.{Fault}
 use Rattle.fault.specs.declared.Fault.TheVariants.{ShortPacket, BlockPastEnd, BlockPastLimit, NumberTooLarge}
@@ -53,14 +54,10 @@ block_fault bs at =
     (cond (nat_lt (length bs) (at + 2 + value at 2 bs)) (Some (BlockPastEnd at))
     None))
 
-abbrev pub or_else : Option Fault → Option Fault → Option Fault
-or_else None g = g
-or_else (Some f) g = Some f
-
 -- what is wrong with the first of k blocks that has a fault
 abbrev pub first_fault : List ℕ → ℕ → Option Fault
 first_fault bs zero = None
-first_fault bs (suc k) = or_else (first_fault bs k) (block_fault bs (block_at bs k))
+first_fault bs (suc k) = option_or (first_fault bs k) (block_fault bs (block_at bs k))
 
 -- what is wrong with the packet
 abbrev pub packet_fault : List ℕ → Option Fault

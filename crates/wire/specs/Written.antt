@@ -1,5 +1,5 @@
 -- A packet as it is laid out, part after part.
-use Rattle.std.specs.Prelude.{◌≡◌, ℕ, zero, suc, ◌+◌, ◌/◌, ◌%◌, ◌^◌, ◌<◌, ◌≤◌, List, [], ◌∷◌, ◌++◌, length, Ok, Result}
+use Rattle.std.specs.Prelude.{◌≡◌, ℕ, zero, suc, ◌+◌, ◌/◌, ◌%◌, ◌^◌, ◌<◌, ◌≤◌, List, [], ◌∷◌, ◌++◌, map, length, Ok, Result}
 use Rattle.fault.specs.declared.Fault.{Fault}
 use Rattle.wire.specs.Packets.{Numbered, Taken, carried}
 
@@ -33,8 +33,7 @@ pub record Fits (session : List ℕ) (first count : ℕ) (ms : List (List ℕ)) 
 
 -- the messages of a packet without their numbers
 abbrev pub plain : List Numbered → List (List ℕ)
-plain [] = []
-plain (m ∷ ms) = m.bytes ∷ plain ms
+plain ms = map (λ m. m.bytes) ms
 
 -- some bytes are a packet that may be, laid out, and then the rest
 pub record LaidOut (bs : List ℕ) (t : Taken) : Type 0 where

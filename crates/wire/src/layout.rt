@@ -1,158 +1,128 @@
 // The layouts of the four kinds of message.
 ghost use Rattle.std.specs.Prelude.{◌≡◌, ℕ, ◌<◌, List, length, Result as Answer};
 ghost use Rattle.fault.specs.declared.Fault.{Fault as Refusal};
+ghost use Rattle.std.proofs.Common.{rules};
 ghost use Rattle.wire.specs.Messages.{Meaning, meant, of_kind, second_of, action_of, order_of, cancel_of, by_second, by_action, by_order, by_cancel};
 
-use crate::bytes::u32_at;
 use crate::message::{Cancel, Order, Second, Side, State, Terms, TradingAction, allowed_units};
+use crate::packet::Block;
+use byteorder::{BigEndian, ByteOrder};
 use fault::Fault;
 
-// A layout has a kind letter and a length of its own, and a view of the fields that borrows the bytes.
-pub(crate) trait Layout<'a> {
+// The kind letter and the length of a layout.
+pub(crate) trait Shape {
+    ghost KIND: { ℕ };
+
     const KIND: char;
 
+    ghost LENGTH: { ℕ };
+
     const LENGTH: usize;
+}
 
+// A layout has a kind letter and a length of its own, and a view of the fields that borrows the bytes. The constants stand
+// in a trait of their own, since the check knows a constant's value only in an impl without a lifetime.
+pub(crate) trait Layout<'a>: Shape {
     type View;
-
-    ghost letter: { ℕ };
-
-    ghost size: { ℕ };
 
     ghost meaning: { List ℕ → Answer Meaning Refusal };
 
     ghost means: { Self.View → Meaning };
 
-    fn own_kind() -> char
-        ensures { result ≡ letter };
-
-    fn own_length() -> usize
-        ensures value { result ≡ size }
-        ensures some { 0 < size };
-
     fn view(bytes: &'a [u8]) -> Result<Self::View, Fault>
-        requires { length bytes.now ≡ size }
+        requires { length bytes.now ≡ Self.LENGTH }
         ensures { meant means result ≡ meaning bytes.now };
+
+    // A message has a first byte.
+    ghost some: { 0 < Self.LENGTH };
 }
 
 pub(crate) struct SecondLayout;
 
-impl<'a> Layout<'a> for SecondLayout {
+impl Shape for SecondLayout {
+    ghost KIND = { 84 };
+
     const KIND: char = 'T';
 
+    ghost LENGTH = { 5 };
+
     const LENGTH: usize = 5;
+}
 
+impl<'a> Layout<'a> for SecondLayout {
     type View = Second;
-
-    ghost letter = { 84 };
-
-    ghost size = { 5 };
 
     ghost meaning = { second_of };
 
     ghost means = { by_second };
 
-    fn own_kind() -> char
-        ensures { result ≡ 84 }
-    {
-        Self::KIND
-    }
-
-    fn own_length() -> usize
-        ensures value { result ≡ 5 }
-        ensures some { 0 < 5 }
-    {
-        Self::LENGTH
-    }
+    ghost some = { Prim.search rules };
 
     fn view(bytes: &'a [u8]) -> Result<Second, Fault> {
         Ok(Second {
-            second: u32_at(bytes, 1),
+            second: BigEndian::read_u32(&bytes[1..]),
         })
     }
 }
 
 pub(crate) struct ActionLayout;
 
-impl<'a> Layout<'a> for ActionLayout {
+impl Shape for ActionLayout {
+    ghost KIND = { 72 };
+
     const KIND: char = 'H';
 
+    ghost LENGTH = { 19 };
+
     const LENGTH: usize = 19;
+}
 
+impl<'a> Layout<'a> for ActionLayout {
     type View = TradingAction<'a>;
-
-    ghost letter = { 72 };
-
-    ghost size = { 19 };
 
     ghost meaning = { action_of };
 
     ghost means = { by_action };
 
-    fn own_kind() -> char
-        ensures { result ≡ 72 }
-    {
-        Self::KIND
-    }
-
-    fn own_length() -> usize
-        ensures value { result ≡ 19 }
-        ensures some { 0 < 19 }
-    {
-        Self::LENGTH
-    }
+    ghost some = { Prim.search rules };
 
     fn view(bytes: &'a [u8]) -> Result<TradingAction<'a>, Fault> {
-        let Some(state) = State::read(bytes[13]) else {
-            return Err(Fault::FieldNotAllowed { offset: 13 });
-        };
         Ok(TradingAction {
             stock: &bytes[5..13],
-            state,
+            state: State::try_from(bytes[13]).map_err(|refused| refused.at(13))?,
         })
     }
 }
 
 pub(crate) struct OrderLayout;
 
-impl<'a> Layout<'a> for OrderLayout {
+impl Shape for OrderLayout {
+    ghost KIND = { 79 };
+
     const KIND: char = 'O';
 
+    ghost LENGTH = { 49 };
+
     const LENGTH: usize = 49;
+}
 
+impl<'a> Layout<'a> for OrderLayout {
     type View = Order<'a>;
-
-    ghost letter = { 79 };
-
-    ghost size = { 49 };
 
     ghost meaning = { order_of };
 
     ghost means = { by_order };
 
-    fn own_kind() -> char
-        ensures { result ≡ 79 }
-    {
-        Self::KIND
-    }
-
-    fn own_length() -> usize
-        ensures value { result ≡ 49 }
-        ensures some { 0 < 49 }
-    {
-        Self::LENGTH
-    }
+    ghost some = { Prim.search rules };
 
     fn view(bytes: &'a [u8]) -> Result<Order<'a>, Fault> {
-        let Some(side) = Side::read(bytes[15]) else {
-            return Err(Fault::FieldNotAllowed { offset: 15 });
-        };
-        let Some(units) = allowed_units(u32_at(bytes, 16)) else {
-            return Err(Fault::FieldNotAllowed { offset: 16 });
-        };
-        let Some(terms) = Terms::read(side, u32_at(bytes, 28)) else {
-            return Err(Fault::FieldNotAllowed { offset: 28 });
-        };
+        let side = Side::try_from(bytes[15]).map_err(|refused| refused.at(15))?;
+        let units = allowed_units(BigEndian::read_u32(&bytes[16..])).map_err(|refused| refused.at(
+            16,
+        ))?;
+        let terms = Terms::read(side, BigEndian::read_u32(&bytes[28..])).map_err(
+            |refused| refused.at(28),
+        )?;
         Ok(Order {
             token: &bytes[1..15],
             terms,
@@ -165,52 +135,45 @@ impl<'a> Layout<'a> for OrderLayout {
 
 pub(crate) struct CancelLayout;
 
-impl<'a> Layout<'a> for CancelLayout {
+impl Shape for CancelLayout {
+    ghost KIND = { 88 };
+
     const KIND: char = 'X';
 
+    ghost LENGTH = { 19 };
+
     const LENGTH: usize = 19;
+}
 
+impl<'a> Layout<'a> for CancelLayout {
     type View = Cancel<'a>;
-
-    ghost letter = { 88 };
-
-    ghost size = { 19 };
 
     ghost meaning = { cancel_of };
 
     ghost means = { by_cancel };
 
-    fn own_kind() -> char
-        ensures { result ≡ 88 }
-    {
-        Self::KIND
-    }
-
-    fn own_length() -> usize
-        ensures value { result ≡ 19 }
-        ensures some { 0 < 19 }
-    {
-        Self::LENGTH
-    }
+    ghost some = { Prim.search rules };
 
     fn view(bytes: &'a [u8]) -> Result<Cancel<'a>, Fault> {
         Ok(Cancel {
             token: &bytes[1..15],
-            units: u32_at(bytes, 15),
+            units: BigEndian::read_u32(&bytes[15..]),
         })
     }
 }
 
 // One check of kind and length for every layout.
-pub(crate) fn checked<'a, L: Layout<'a>>(number: u64, bytes: &'a [u8]) -> Result<L::View, Fault>
-    ensures { meant L.Layout.means result ≡ of_kind L.Layout.letter L.Layout.size L.Layout.meaning number bytes.now }
+pub(crate) fn checked<'a, L: Layout<'a>>(block: &Block<'a>) -> Result<L::View, Fault>
+    ensures { meant L.Layout.means result ≡ of_kind L.KIND L.LENGTH L.Layout.meaning block.now.number block.now.bytes.now }
 {
-    let own_length = L::own_length();
-    let [kind, fields @ ..] = bytes else {
-        return Err(Fault::Malformed { number });
+    let malformed = Fault::Malformed {
+        number: block.number,
     };
-    if char::from(*kind) != L::own_kind() || fields.len() + 1 != own_length {
-        return Err(Fault::Malformed { number });
+    let [kind, fields @ ..] = block.bytes else {
+        return Err(malformed);
+    };
+    if char::from(*kind) != L::KIND || fields.len() + 1 != L::LENGTH {
+        return Err(malformed);
     }
-    L::view(bytes)
+    L::view(block.bytes)
 }

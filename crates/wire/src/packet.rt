@@ -1,12 +1,10 @@
 // Packets, and the blocks in them.
-ghost use Rattle.std.specs.Prelude.{◌≡◌, ℕ, ◌+◌, ◌<◌, ◌≤◌, List, ◌++◌, length, IfOk, Some as Just, None as Nothing, MatchResult};
+ghost use Rattle.std.specs.Prelude.{◌≡◌, ℕ, ◌+◌, ◌-◌, ◌≤◌, length, IfOk, Some as Just, None as Nothing, MatchResult};
 ghost use Rattle.wire.specs.Bytes.{value};
-ghost use Rattle.wire.specs.Packets.{carried, first_of, block_at, block_fault, first_fault, packet_of, followed_by, curable, Lasts};
-ghost use Rattle.wire.specs.Written.{Exactly};
-ghost use Rattle.wire.specs.Blocks.{contents, taken, to_come, Step, block_of, found};
+ghost use Rattle.wire.specs.Packets.{carried, first_of, blocks_of, block_at, block_fault, first_fault, packet_fault, packet_of, followed_by, curable, Lasts};
 ghost use Rattle.std.specs.Iterator.{at_most};
 
-use crate::bytes::u16_at;
+use byteorder::{BigEndian, ByteOrder};
 use fault::Fault;
 
 // The bytes of a packet before its blocks.
@@ -22,6 +20,17 @@ pub const LOOKAHEAD: usize = LIMIT + 2;
 // The count that ends a session; it carries no blocks.
 const END_OF_SESSION: u16 = 65_535;
 
+// What a packet is sent for, told by its count.
+#[derive(Clone, Copy, PartialEq, Eq, Debug)]
+pub enum Purpose {
+    // to show that the sender is there
+    Heartbeat,
+    // to bring messages
+    Messages,
+    // to tell that no more messages come
+    EndOfSession,
+}
+
 // A message in a packet, with its number.
 #[derive(Clone, Copy)]
 pub struct Block<'a> {
@@ -29,38 +38,34 @@ pub struct Block<'a> {
     pub bytes: &'a [u8],
 }
 
-// One packet. Its blocks are in `bytes`, from offset 20 on.
+// One packet, at the front of the bytes. Nothing is wrong with it.
 #[derive(Clone, Copy)]
 pub struct Packet<'a> {
-    session: &'a [u8],
-    first: u64,
-    count: u16,
     bytes: &'a [u8],
+    ghost whole: { packet_fault bytes.now ≡ Nothing },
 }
 
-// A walk over the blocks of a packet: the next one is at the offset `at` and has the number `number`, if any is left.
+// A walk over the blocks of a packet: the next one is at the offset `at` and has the number `number`, if any is left. An
+// offset and no shorter slice, since `block_at` and the faults count from the packet's front.
 #[derive(Drop)]
 pub struct Blocks<'a> {
-    bytes: &'a [u8],
+    packet: Packet<'a>,
     at: usize,
     number: u64,
     left: u16,
-}
-
-fn first_in(bytes: &[u8]) -> u64
-    requires { 20 ≤ length bytes.now }
-    ensures { result ≡ first_of bytes.now }
-{
-    u64::from_be_bytes([
-        bytes[10], bytes[11], bytes[12], bytes[13], bytes[14], bytes[15], bytes[16], bytes[17],
-    ])
+    ghost few: { left ≤ blocks_of packet.bytes.now },
+    ghost here: { at ≡ block_at packet.bytes.now (blocks_of packet.bytes.now - left) },
+    ghost counted: { number ≡ first_of packet.bytes.now + (blocks_of packet.bytes.now - left) },
 }
 
 // Whether the bytes that follow may cure the fault of a packet.
 pub fn needs_more(fault: Fault) -> bool
     ensures { result ≡ curable fault }
 {
-    matches!(fault.number(), 1 | 2)
+    matches!(
+        fault,
+        Fault::ShortPacket { .. } | Fault::BlockPastEnd { .. }
+    )
 }
 
 // How many blocks a count stands for.
@@ -73,7 +78,8 @@ fn blocks_carried(count: u16) -> u16
     }
 }
 
-// Where the block ends whose length field is at `at`.
+// Where the block ends whose length field is at `at`. The faults and the limit count from the packet's front, so an offset
+// goes with the bytes.
 fn block_end(bytes: &[u8], at: usize) -> Result<usize, Fault>
     ensures { MatchResult result (λ e. (block_fault bytes.now at ≡ Nothing) × (e ≡ at + 2 + value at 2 bytes.now) × (e ≤ 1472) × (e ≤ length bytes.now)) (λ f. block_fault bytes.now at ≡ Just f) }
 {
@@ -81,7 +87,7 @@ fn block_end(bytes: &[u8], at: usize) -> Result<usize, Fault>
         Some(body) if body <= bytes.len() => body,
         _ => return Err(Fault::BlockPastEnd { offset: at }),
     };
-    let end = body.saturating_add(usize::from(u16_at(bytes, at)));
+    let end = body.saturating_add(usize::from(BigEndian::read_u16(&bytes[at..])));
     if end > LIMIT {
         return Err(Fault::BlockPastLimit { offset: at });
     }
@@ -103,62 +109,64 @@ fn blocks_end(bytes: &[u8], n: u16) -> Result<usize, Fault>
 }
 
 impl<'a> Iterator for Blocks<'a> {
+    ghost use Rattle.wire.specs.Blocks.{Step};
+
     type Item = Block<'a>;
 
     ghost next_gives = { Step };
 
     ghost remaining = { λ w. at_most w.left };
 
+    #[tactic(auto, using(crate::proofs::Walks::next_within))]
     fn next(&mut self) -> Option<Block<'a>> {
         if self.left == 0 {
             return None;
         }
-        let bytes = self.bytes;
-        let at = self.at;
-        let number = self.number;
-        let Ok(end) = block_end(bytes, at) else {
-            return None;
+        let Blocks {
+            packet,
+            at,
+            number,
+            left,
+        } = *self;
+        let start = at + 2;
+        let end = start + usize::from(BigEndian::read_u16(&packet.bytes[at..]));
+        *self = Blocks {
+            packet,
+            at: end,
+            number: number + 1,
+            left: left - 1,
         };
-        let Some(after) = number.checked_add(1) else {
-            return None;
-        };
-        self.at = end;
-        self.number = after;
-        self.left -= 1;
         Some(Block {
             number,
-            bytes: &bytes[at + 2..end],
+            bytes: &packet.bytes[start..end],
         })
     }
 }
 
-// The packet at the front of the bytes, and the rest.
-fn front(bytes: &[u8]) -> Result<(Packet<'_>, &[u8]), Fault>
-    ensures answer { taken contents (λ rest. rest.now) result ≡ packet_of bytes.now }
-    ensures shorter { IfOk result (λ t. length t.1.now + 20 ≤ length bytes.now) }
-{
-    if bytes.len() < HEADER {
-        return Err(Fault::ShortPacket {
-            length: bytes.len(),
-        });
-    }
-    let first = first_in(bytes);
-    let count = u16_at(bytes, 18);
-    let blocks = blocks_carried(count);
-    if first > u64::MAX - u64::from(blocks) {
-        return Err(Fault::NumberTooLarge { first });
-    }
-    let end = blocks_end(bytes, blocks)?;
-    let packet = Packet {
-        session: &bytes[0..10],
-        first,
-        count,
-        bytes,
-    };
-    Ok((packet, &bytes[end..]))
-}
-
 impl<'a> Packet<'a> {
+    ghost use Rattle.std.specs.Prelude.{List, ◌++◌};
+    ghost use Rattle.wire.specs.Blocks.{contents, taken, to_come, purpose_of, block_of, found};
+    ghost use Rattle.wire.specs.Written.{Exactly};
+
+    // The packet at the front of the bytes, and the rest.
+    fn front(bytes: &'a [u8]) -> Result<(Packet<'a>, &'a [u8]), Fault>
+        ensures answer { taken contents (λ rest. rest.now) result ≡ packet_of bytes.now }
+        ensures shorter { IfOk result (λ t. length t.1.now + 20 ≤ length bytes.now) }
+    {
+        if bytes.len() < HEADER {
+            return Err(Fault::ShortPacket {
+                length: bytes.len(),
+            });
+        }
+        let first = BigEndian::read_u64(&bytes[10..]);
+        let blocks = blocks_carried(BigEndian::read_u16(&bytes[18..]));
+        if first > u64::MAX - u64::from(blocks) {
+            return Err(Fault::NumberTooLarge { first });
+        }
+        let end = blocks_end(bytes, blocks)?;
+        Ok((Packet { bytes }, &bytes[end..]))
+    }
+
     // Takes one packet from the front of the bytes, and hands back the rest.
     pub fn read(bytes: &'a [u8]) -> Result<(Packet<'a>, &'a [u8]), Fault>
         ensures answer { taken contents (λ rest. rest.now) result ≡ packet_of bytes.now }
@@ -167,44 +175,48 @@ impl<'a> Packet<'a> {
         ensures exactly { Exactly bytes.now (taken contents (λ rest. rest.now) result) }
         ensures shorter { IfOk result (λ t. length t.1.now + 20 ≤ length bytes.now) }
     {
-        front(bytes)
+        Packet::front(bytes)
     }
 
     pub fn session(&self) -> &'a [u8]
         ensures { result.now ≡ (contents self.now).session }
     {
-        self.session
+        &self.bytes[0..10]
     }
 
     // The number of the first message.
     pub fn first(&self) -> u64
         ensures { result ≡ (contents self.now).first }
     {
-        self.first
+        BigEndian::read_u64(&self.bytes[10..])
     }
 
     // The count as it stands in the packet.
     pub fn count(&self) -> u16
         ensures { result ≡ (contents self.now).count }
     {
-        self.count
+        BigEndian::read_u16(&self.bytes[18..])
+    }
+
+    pub fn purpose(&self) -> Purpose
+        ensures { result ≡ purpose_of (contents self.now).count }
+    {
+        match self.count() {
+            0 => Purpose::Heartbeat,
+            END_OF_SESSION => Purpose::EndOfSession,
+            _ => Purpose::Messages,
+        }
     }
 
     // The messages in order, in one pass.
     pub fn blocks(&self) -> Blocks<'a>
         ensures { to_come result ≡ (contents self.now).messages }
     {
-        let Packet {
-            first,
-            count,
-            bytes,
-            ..
-        } = *self;
         Blocks {
-            bytes,
+            packet: *self,
             at: HEADER,
-            number: first,
-            left: blocks_carried(count),
+            number: self.first(),
+            left: blocks_carried(self.count()),
         }
     }
 
@@ -212,13 +224,9 @@ impl<'a> Packet<'a> {
     pub fn block(&self, k: u16) -> Result<Block<'a>, Fault>
         ensures { found result ≡ block_of (contents self.now).messages k }
     {
-        let mut place = 0;
-        for block in self.blocks() {
-            if place == k {
-                return Ok(block);
-            }
-            place += 1;
-        }
-        Err(Fault::NoSuchBlock { blocks: place })
+        let blocks = blocks_carried(self.count());
+        self.blocks()
+            .nth(usize::from(k))
+            .ok_or(Fault::NoSuchBlock { blocks })
     }
 }

@@ -1,25 +1,41 @@
-use Rattle.std.proofs.Common.{rules}
-use Rattle.wire.proofs.Walks.{none_past_fault, none_past_last, here_and_after}
+use Rattle.std.proofs.Common.{◌≡◌, suc, ◌+◌, ◌-◌, ◌≤◌, length, ◌∙◌, arith, rules}
+use Rattle.wire.specs.Bytes.{value}
+use Rattle.wire.specs.Packets.{blocks_of}
+use Rattle.wire.specs.declared.packet.Blocks.{Blocks}
+use Rattle.wire.proofs.Numbers.{read_at}
+use Rattle.wire.proofs.Walks.{next_within}
 use Rattle.wire.proofs.packet.BlocksIterator.next.Goals as goal
 
-pub returns-in_default : goal.returns-in_default
-returns-in_default c =
-    let w = c.args.self.now in
-    let e = none_past_fault w.bytes.now w.at w.number w.left _ c.in_default.ensures in
-    record { steps = (e, e); goes = search rules }
+-- the next block lies within the bytes
+within : (w : Blocks) → (w.left ≡ 0 → ⊥) → (w.at + 2 + value w.at 2 w.packet.bytes.now ≤ 1472) × (w.at + 2 + value w.at 2 w.packet.bytes.now ≤ length w.packet.bytes.now)
+within w some = next_within w.packet.bytes.now w.left w.at w.packet.whole w.few w.here some
 
-pub returns-in_default-checked_add : goal.returns-in_default-checked_add
-returns-in_default-checked_add c =
-    let w = c.args.self.now in
-    let e = none_past_last w.bytes.now w.at w.number w.left c.in_default-checked_add.ensures in
-    record { steps = (e, e); goes = search rules }
+pub overflow_add-start : goal.overflow_add-start
+overflow_add-start c = let b = within c.args.self.now c.if-self-eq0.false in search rules
 
-pub returns : goal.returns
-returns c =
+pub slice_bounds-read_u16-count : goal.slice_bounds-read_u16-count
+slice_bounds-read_u16-count c = let b = within c.args.self.now c.if-self-eq0.false in omega arith
+
+pub slice_bounds-read_u16-start : goal.slice_bounds-read_u16-start
+slice_bounds-read_u16-start c = let b = within c.args.self.now c.if-self-eq0.false in search rules
+
+pub read_u16-requires : goal.read_u16-requires
+read_u16-requires c = let b = within c.args.self.now c.if-self-eq0.false in search rules
+
+pub overflow_add-end : goal.overflow_add-end
+overflow_add-end c =
+    let b = within c.args.self.now c.if-self-eq0.false in
+    let v = c.read_u16.ensures ∙ read_at c.args.self.now.at 2 c.args.self.now.packet.bytes.now in
+    search rules
+
+pub invariant_of-self : goal.invariant_of-self
+invariant_of-self c =
     let w = c.args.self.now in
-    let b = c.in-Ok.ensures in
-    let a = c.in-Some.ensures in
+    let n = blocks_of w.packet.bytes.now in
+    let v = c.read_u16.ensures ∙ read_at w.at 2 w.packet.bytes.now in
+    let next : n - (w.left - 1) ≡ suc (n - w.left) = omega (arith, w.few, c.if-self-eq0.false) in
     record {
-      steps = here_and_after w.bytes.now w.at w.number w.left _ _ (search rules) b.0 b.1 a.0 a.1;
-      goes = search rules;
+      few = omega (arith, w.few);
+      here = rw (next, ← w.here) (omega (arith, v, c.from.ensures));
+      counted = omega (arith, w.counted, next);
     }
