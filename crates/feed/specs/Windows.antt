@@ -1,15 +1,19 @@
 -- What a window holds, and what it shows.
-use Rattle.std.specs.Prelude.{◌≡◌, ℕ, ◌-◌, ◌<◌, Bool, true, false, cond, not, ◌&&◌, List, [], ◌++◌, length, drop, Ok, Err, vec_items, Result, ◌==◌}
+use Rattle.std.specs.Prelude.{◌≡◌, ℕ, ◌-◌, ◌<◌, Bool, true, false, cond, not, ◌&&◌, List, [], ◌++◌, length, drop, Ok, Err, Result, ◌==◌}
 use Rattle.fault.specs.declared.Fault.{Fault}
 use Rattle.wire.specs.Packets.{Contents, Taken, packet_of, curable}
 use Rattle.wire.specs.Blocks.{contents}
 use Rattle.feed.specs.declared.Window.{Window}
 use Rattle.feed.specs.declared.Front.{Front}
-use Rattle.feed.specs.declared.Front.TheVariants.{Whole, Refused, Wanting, Ended}
+use Rattle.feed.specs.declared.Front.TheVariants.{Whole, Wanting, Ended}
 
 -- the bytes that were read and not yet taken
 abbrev pub pending_in : Window → List ℕ
-pending_in w = drop w.start (vec_items w.bytes)
+pending_in w = w.pending
+
+-- whether the input has said that it ends
+abbrev pub ended_in : Window → Bool
+ended_in w = w.ended
 
 -- some bytes, perhaps none, were added at the end
 abbrev pub Extended : List ℕ → List ℕ → Type 0
@@ -22,11 +26,11 @@ pub data Sight : Type 0 where
   wanting : Sight
   over : Sight
 
-abbrev pub seen : Front → Sight
-seen (Whole p size) = whole (contents p) size
-seen (Refused f) = refused f
-seen Wanting = wanting
-seen Ended = over
+abbrev pub seen : Result Front Fault → Sight
+seen (Ok (Whole p size)) = whole (contents p) size
+seen (Ok Wanting) = wanting
+seen (Ok Ended) = over
+seen (Err f) = refused f
 
 -- by what reading the n bytes at hand answers: a fault that more bytes may cure is no refusal before the input ends
 abbrev pub sight_by : Bool → ℕ → Result Taken Fault → Sight

@@ -1,18 +1,13 @@
-use Rattle.std.proofs.Common.{◌≡◌, ◌<◌, length, sym, ap, arith, rules}
-use Rattle.feed.specs.Windows.{pending_in}
-use Rattle.feed.proofs.Sights.{whole_there, over_shown}
+use Rattle.std.proofs.Common.{◌≡◌, ◌-◌, ◌∙◌, List, ℕ, length, drop, ◌++◌, refl, arith, length-append}
+use Rattle.std.proofs.lemmas.List.{drop_at}
 use Rattle.feed.proofs.Window.front.Goals as goal
 
-pub returns-then-is_empty : goal.returns-then-is_empty
-returns-then-is_empty c =
-    let v = ap length c.pending-pending.ensures.value in
-    let none : length (pending_in c.args.self.now) ≡ 0 = search rules in
-    let o = over_shown _ _ c.if-self.true none in
-    record { answer = o.0; right = o.1 }
+-- the end of a list, by its length
+ending : (bs front rest : List ℕ) → bs ≡ front ++ rest → drop (length bs - length rest) bs ≡ rest
+ending bs front rest e = rw e (drop_at front rest _ (omega (arith, length-append front rest)))
 
-pub returns-in-Ok : goal.returns-in-Ok
-returns-in-Ok c =
-    let r = c.in-Ok.ensures in
-    let some : 0 < length c.pending-pending.result.now = omega (arith, r.shorter) in
-    let w = whole_there c.args.self.now.ended _ c.pending-pending.result.now _ c.pending-pending.ensures.value some r.lasting (sym r.answer) in
-    record { answer = w.0; right = w.1 }
+pub returns-in-Ok-clause-right : goal.returns-in-Ok-clause-right
+returns-in-Ok-clause-right c more _ =
+    let read = c.in-Ok.ensures in
+    let rest = ending c.pending-pending.result.now _ c.in-Ok.rest.now (read.exactly.only _ refl).bytes in
+    rw (← c.pending-pending.ensures.value) (read.lasting more (rw (← read.answer) tt) ∙ rw (← read.answer, rest))
