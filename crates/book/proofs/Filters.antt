@@ -1,91 +1,63 @@
--- Filters of a list: sums and extremes of what passes a test, and a filter that drops one place.
-use Rattle.std.proofs.Common.{◌≡◌, ℕ, zero, suc, ◌+◌, ◌<◌, ◌≤◌, min, max, Bool, true, false, cond, ltb, ◌⊎◌, List, [], ◌∷◌, map, length, get_or, Some, None, fold, sum_by, filter, Option, sym, refl, ap, ◌∙◌, inl, inr, ⊎_elim, zero-add, arith}
-use Rattle.std.specs.List.{remove, AllByRecursion}
-use Rattle.std.proofs.ByRecursion.{All-map, all_kept_by, All-from_get_or}
+-- What a test keeps of a list: sums, the best number, and all but one place.
+use Rattle.std.proofs.Common.{◌≡◌, ℕ, zero, suc, ◌+◌, ◌<◌, Bool, true, false, cond, List, [], ◌∷◌, map, length, get_or, fold, sum_by, filter, sym, refl, ap, ◌∙◌, subst, ⊎_elim, arith}
+use Rattle.std.specs.Cmp.{IsStrictWeakOrder}
+use Rattle.std.specs.List.{remove, All, Any, Contains}
+use Rattle.std.proofs.lemmas.List.{get_or_default}
+use Rattle.std.proofs.lemmas.List.Elements.{All-nil, All-cons, All-head, All-tail}
+use Rattle.std.proofs.lemmas.List.Folds.{fold_along}
+use Rattle.std.proofs.lemmas.List.MinMax.{IsFirstBest-from_best_of}
 use Rattle.std.proofs.lemmas.List.Sums.{sum_by-cons}
-use Rattle.std.proofs.lemmas.Bool.{cases_lt, cond-true, cond-false, lt-ltb}
-use Rattle.book.specs.Books.{least, greatest}
+use Rattle.std.proofs.lemmas.Map.Made.{Contains-tail}
+use Rattle.std.proofs.lemmas.Bool.{cases_Bool, cases_eq, cond-true, cond-false, both_ways}
 
 -- ---- sums
-sum_kept_at : {X : Type 0} (f : X → ℕ) (x : X) (ys : List X) (n : ℕ) (t : Bool) → sum_by f ys ≡ n → sum_by f (cond t (x ∷ ys) ys) ≡ cond t (f x) 0 + n
-sum_kept_at f x ys n true e = sum_by-cons f x ys ∙ ap (λ m. f x + m) e
-sum_kept_at f x ys n false e = e ∙ sym (zero-add n)
+-- one element more, kept or not
+pub sum_kept : {X : Type 0} (f : X → ℕ) (q : X → Bool) (x : X) (xs : List X) → sum_by f (filter q (x ∷ xs)) ≡ cond (q x) (f x) 0 + sum_by f (filter q xs)
+sum_kept f q x xs = ⊎_elim (λ t. grind (arith, t, sum_by-cons f x (filter q xs))) (λ e. grind (arith, e)) (cases_Bool (q x))
 
-pub sum_kept : {X : Type 0} (f : X → ℕ) (q : X → Bool) (xs : List X) → sum_by f (filter q xs) ≡ sum_by (λ x. cond (q x) (f x) 0) xs
-sum_kept f q [] = refl
-sum_kept f q (x ∷ xs) = sum_kept_at f x (filter q xs) _ (q x) (sum_kept f q xs) ∙ sym (sum_by-cons (λ y. cond (q y) (f y) 0) x xs)
+-- ---- the best of some numbers, which op picks of two
+module _ (beats : ℕ → ℕ → Bool) (order : IsStrictWeakOrder beats) (op : ℕ → ℕ → ℕ) (picks : (a x : ℕ) → op a x ≡ cond (beats x a) x a) where
+  -- it is one of them, and none beats it
+  pub best_of_all : (n : ℕ) (ns : List ℕ) → Contains (n ∷ ns) (fold op n ns) × All (λ m. beats m (fold op n ns) ≡ false) (n ∷ ns)
+  best_of_all n ns =
+      let best = IsFirstBest-from_best_of order n ns in
+      let same = fold_along op (λ a x. cond (beats x a) x a) (λ a b. a ≡ b) (λ a b x e. picks a x ∙ ap (λ y. cond (beats x y) x y) e) n n ns refl in
+      let here : (d : ℕ) → get_or (n ∷ ns) best.0 d ≡ fold op n ns = λ d. get_or_default (n ∷ ns) best.0 d n best.1.0 ∙ best.2 ∙ sym same in
+      ((best.0, best.1.0, here (fold op n ns)), λ k d l. sym (ap (beats (get_or (n ∷ ns) k d)) (here d)) ∙ best.1.1 k d l)
 
--- ---- the least and the greatest of some numbers
-abbrev pub Any : {X : Type 0} → (X → Type 0) → List X → Type 0
-Any P [] = ⊥
-Any P (x ∷ xs) = P x ⊎ Any P xs
+-- ---- from what a test keeps back to the list
+module _ {X : Type 0} (f : X → ℕ) (q : X → Bool) where
+  pub all_back : (P : ℕ → Type 0) (xs : List X) → All P (map f (filter q xs)) → All (λ x. q x ≡ true → P (f x)) xs
+  all_back P [] h = All-nil (λ x. q x ≡ true → P (f x))
+  all_back P (x ∷ xs) h = ⊎_elim
+      (λ t. let kept = subst (λ (ys : List X). All P (map f ys)) (cond-true _ _ _ t) h in
+      All-cons (λ y. q y ≡ true → P (f y)) x xs (λ _. All-head P (f x) (map f (filter q xs)) kept) (all_back P xs (All-tail P (f x) (map f (filter q xs)) kept)))
+      (λ e. All-cons (λ y. q y ≡ true → P (f y)) x xs (λ t. absurd (both_ways _ e t)) (all_back P xs (subst (λ (ys : List X). All P (map f ys)) (cond-false _ _ _ e) h)))
+      (cases_Bool (q x))
 
--- r is one of the numbers and stands in R to each, or there are none
-abbrev pub Picked : (ℕ → ℕ → Type 0) → List ℕ → Option ℕ → Type 0
-Picked R ns None = AllByRecursion (λ _. ⊥) ns
-Picked R ns (Some m) = Any (λ n. n ≡ m) ns × AllByRecursion (R m) ns
+  there : (P : X → Type 0) (x : X) (xs : List X) → Any P xs → Any P (x ∷ xs)
+  there P x xs h = (suc h.0, h.1, omega (arith, h.2), h.3, h.4)
 
-module _ (op : ℕ → ℕ → ℕ) (R : ℕ → ℕ → Type 0) (self : (a : ℕ) → R a a) (trans : (a b c : ℕ) → R a b → R b c → R a c)
-    (left : (a b : ℕ) → R (op a b) a) (right : (a b : ℕ) → R (op a b) b) (either : (a b : ℕ) → (op a b ≡ a) ⊎ (op a b ≡ b)) where
-  folded_picks : (n : ℕ) (ns : List ℕ) → Picked R (n ∷ ns) (Some (fold op n ns))
-  folded_picks n [] = (inl refl, (self n, tt))
-  folded_picks n (m ∷ ns) =
-      let h = folded_picks (op n m) ns in (
-        ⊎_elim (λ e. ⊎_elim (λ l. inl (sym l ∙ e)) (λ r. inr (inl (sym r ∙ e))) (either n m)) (λ r. inr (inr r)) h.0,
-        (trans _ _ _ h.1.0 (left n m), (trans _ _ _ h.1.0 (right n m), h.1.1)),
-      )
-
-pub least_picks : (ns : List ℕ) → Picked ◌≤◌ ns (least ns)
-least_picks [] = tt
-least_picks (n ∷ ns) = folded_picks min ◌≤◌ (λ a. omega arith) (λ a b c p q. omega arith) (λ a b. omega arith) (λ a b. omega arith)
-    (λ a b. ⊎_elim (λ lt. inl (omega arith)) (λ ge. inr (omega arith)) (cases_lt a b)) n ns
-
-pub greatest_picks : (ns : List ℕ) → Picked (λ m n. n ≤ m) ns (greatest ns)
-greatest_picks [] = tt
-greatest_picks (n ∷ ns) = folded_picks max (λ k j. j ≤ k) (λ a. omega arith) (λ a b c p q. omega arith) (λ a b. omega arith) (λ a b. omega arith)
-    (λ a b. ⊎_elim (λ lt. inr (omega arith)) (λ ge. inl (omega arith)) (cases_lt a b)) n ns
-
--- ---- the greatest, with 0 for none
-abbrev pub unless0 : ℕ → Option ℕ
-unless0 n = cond (ltb 0 n) (Some n) None
-
-greatest_from_0 : (ns : List ℕ) → AllByRecursion (λ n. 1 ≤ n) ns → greatest ns ≡ unless0 (fold max 0 ns)
-greatest_from_0 [] h = refl
-greatest_from_0 (n ∷ ns) h =
-    let e : max 0 n ≡ n = omega arith in
-    let l : 0 < fold max n ns = omega (arith, (greatest_picks (n ∷ ns)).1.0, h.0) in
-    sym (ap (λ m. unless0 (fold max m ns)) e ∙ cond-true _ _ _ (lt-ltb 0 (fold max n ns) l))
-
--- one element more, passed or not
-max_kept_at : {X : Type 0} (f g : X → ℕ) (a : ℕ) (x : X) (xs ys : List X) (t : Bool) → ((b : ℕ) → fold max b (map f ys) ≡ fold (λ m y. max m (g y)) b xs) → fold max a (map f (cond t (x ∷ ys) ys)) ≡ fold (λ m y. max m (g y)) (max a (cond t (f x) 0)) xs
-max_kept_at f g a x xs ys true h = h (max a (f x))
-max_kept_at f g a x xs ys false h =
-    let e : max a 0 ≡ a = omega arith in
-    h a ∙ sym (ap (λ n. fold (λ m y. max m (g y)) n xs) e)
-
-max_kept : {X : Type 0} (f : X → ℕ) (q : X → Bool) (xs : List X) (a : ℕ) → fold max a (map f (filter q xs)) ≡ fold (λ m x. max m (cond (q x) (f x) 0)) a xs
-max_kept f q [] a = refl
-max_kept f q (x ∷ xs) a = max_kept_at f (λ y. cond (q y) (f y) 0) a x xs (filter q xs) (q x) (max_kept f q xs)
-
-pub greatest_kept : {X : Type 0} (f : X → ℕ) (q : X → Bool) (xs : List X) → AllByRecursion (λ x. 1 ≤ f x) xs → greatest (map f (filter q xs)) ≡ unless0 (fold (λ m x. max m (cond (q x) (f x) 0)) 0 xs)
-greatest_kept f q xs h = greatest_from_0 (map f (filter q xs)) (All-map (λ n. 1 ≤ n) f (filter q xs) (all_kept_by q (λ x. 1 ≤ f x) xs h)) ∙ ap unless0 (max_kept f q xs 0)
-
--- ---- the least
-pub folded_min : (n : ℕ) (ns : List ℕ) → AllByRecursion (λ m. n ≤ m) ns → fold min n ns ≡ n
-folded_min n [] h = refl
-folded_min n (m ∷ ns) h =
-    let e : min n m ≡ n = omega (arith, h.0) in
-    ap (λ k. fold min k ns) e ∙ folded_min n ns h.1
+  pub any_back : (m : ℕ) (xs : List X) → Contains (map f (filter q xs)) m → Any (λ x. (q x ≡ true) × (f x ≡ m)) xs
+  any_back m [] h = absurd (omega (arith, h.1))
+  any_back m (x ∷ xs) h = ⊎_elim
+      (λ t. let kept = subst (λ (ys : List X). Contains (map f ys) m) (cond-true _ _ _ t) h in
+      ⊎_elim
+      (λ e. (0, x, omega arith, refl, (t, e)))
+      (λ ne. there (λ y. (q y ≡ true) × (f y ≡ m)) x xs (any_back m xs (Contains-tail (f x) (map f (filter q xs)) m ne kept)))
+      (cases_eq (f x) m))
+      (λ e. there (λ y. (q y ≡ true) × (f y ≡ m)) x xs (any_back m xs (subst (λ (ys : List X). Contains (map f ys) m) (cond-false _ _ _ e) h)))
+      (cases_Bool (q x))
 
 -- ---- a filter that keeps all, or all but one place
-pub kept_all : {X : Type 0} (q : X → Bool) (xs : List X) → AllByRecursion (λ x. q x ≡ true) xs → filter q xs ≡ xs
-kept_all q [] h = refl
-kept_all q (x ∷ xs) h = cond-true _ _ _ h.0 ∙ ap (λ ys. x ∷ ys) (kept_all q xs h.1)
-
 module _ {X : Type 0} (q : X → Bool) where
+  pub kept_all : (xs : List X) → All (λ x. q x ≡ true) xs → filter q xs ≡ xs
+  kept_all [] h = refl
+  kept_all (x ∷ xs) h = cond-true _ _ _ (h 0 x (omega arith)) ∙ ap (λ ys. x ∷ ys) (kept_all xs (All-tail (λ y. q y ≡ true) x xs h))
+
   pub kept_others : (xs : List X) (at : ℕ) → at < length xs → ((d : X) → q (get_or xs at d) ≡ false) → ((k : ℕ) (d : X) → k < length xs → (k ≡ at → ⊥) → q (get_or xs k d) ≡ true) → filter q xs ≡ remove xs at
   kept_others [] at l out rest = absurd (omega arith)
   kept_others (x ∷ xs) zero l out rest =
-      cond-false _ _ _ (out x) ∙ kept_all q xs (All-from_get_or (λ y. q y ≡ true) xs x (λ k h. rest (suc k) x (omega arith) (λ e. absurd (omega arith))))
+      cond-false _ _ _ (out x) ∙ kept_all xs (λ k d h. rest (suc k) d (omega arith) (λ e. absurd (omega arith)))
   kept_others (x ∷ xs) (suc at) l out rest =
       cond-true _ _ _ (rest 0 x (omega arith) (λ e. absurd (omega arith))) ∙ ap (λ ys. x ∷ ys) (kept_others xs at (omega arith) out (λ k d h ne. rest (suc k) d (omega arith) (λ e. ne (omega arith))))

@@ -1,4 +1,4 @@
 pub mod Filters
-pub mod Passes
-pub mod Keeps
+pub mod Searches
 pub mod Means
+pub mod Keeps

@@ -1,6 +1,6 @@
 -- What a book means, over its live bids in order of number, its capacity and its top.
-use Rattle.std.specs.Prelude.{ℕ, ◌<◌, ◌≤◌, min, max, Bool, true, false, not, ◌&&◌, ◌||◌, List, [], ◌∷◌, ◌++◌, map, length, Some, None, Ok, Err, fold, sum_by, filter, Option, Result, ◌==◌, nat_le, nat_lt, slice_index_or}
-use Rattle.std.specs.List.{AllByRecursion}
+use Rattle.std.specs.Prelude.{ℕ, ◌<◌, ◌≤◌, min, max, Bool, not, List, [], ◌∷◌, ◌++◌, map, length, Ok, Err, fold, sum_by, filter, Option, Result, ◌==◌, nat_le, nat_lt}
+use Rattle.std.specs.List.{All, AllPairs, list_any, list_all, reduce}
 use Rattle.std.specs.Str.{bytes_eq}
 use Rattle.fault.specs.declared.Fault.{Fault}
 use Rattle.fault.specs.declared.Fault.TheVariants.{AboveTop, BookFull, NotAboveLast, NotFound}
@@ -9,24 +9,22 @@ use Rattle.book.specs.declared.bid.Bid.{Bid}
 
 -- numbers ascend strictly from place to place
 abbrev pub Ascend : List Bid → Type 0
-Ascend bids = (i j : ℕ) (d : Bid) → i < j → j < length bids → (slice_index_or bids i d).number < (slice_index_or bids j d).number
+Ascend bids = AllPairs (λ a b. a.number < b.number) bids
 
 -- what holds of every book at all times
 pub record Sound (bids : List Bid) (capacity top : ℕ) : Type 0 where
   pub ascend : Ascend bids
-  pub limits : AllByRecursion (λ b. b.limit ≤ top) bids
+  pub limits : All (λ b. b.limit ≤ top) bids
   pub count : length bids ≤ capacity
   pub highest : top ≤ 19999999
 
 -- whether a live bid has the number n
 abbrev pub has_number : ℕ → List Bid → Bool
-has_number n [] = false
-has_number n (b ∷ bids) = b.number == n || has_number n bids
+has_number n bids = list_any (λ b. b.number == n) bids
 
 -- whether n is above every live number
 abbrev pub above_all : ℕ → List Bid → Bool
-above_all n [] = true
-above_all n (b ∷ bids) = nat_lt b.number n && above_all n bids
+above_all n bids = list_all (λ b. nat_lt b.number n) bids
 
 -- the number of the last live bid, 0 where there is none
 abbrev pub last_number : List Bid → ℕ
@@ -55,12 +53,10 @@ after_remove bids n (Err _) = bids
 
 -- the least and the greatest of some numbers
 abbrev pub least : List ℕ → Option ℕ
-least [] = None
-least (n ∷ ns) = Some (fold min n ns)
+least ns = reduce min ns
 
 abbrev pub greatest : List ℕ → Option ℕ
-greatest [] = None
-greatest (n ∷ ns) = Some (fold max n ns)
+greatest ns = reduce max ns
 
 -- the lowest number of a live bid with the token t
 abbrev pub number_with : List ℕ → List Bid → Option ℕ

@@ -1,22 +1,18 @@
 -- What a book's answers mean, as relations to its live bids. Code that knows only the traits may use them of every book.
-use Rattle.std.specs.Prelude.{◌≡◌, ℕ, ◌+◌, ◌<◌, ◌≤◌, List, length, Some, None, sum_by, filter, Option, ◌≢◌, nat_eq}
-use Rattle.std.specs.List.{HoldsAt, AllByRecursion}
+use Rattle.std.specs.Prelude.{◌≡◌, ℕ, ◌+◌, ◌<◌, ◌≤◌, List, Some, None, sum_by, filter, Option, ◌≢◌, nat_eq}
+use Rattle.std.specs.List.{All, Any}
 use Rattle.book.specs.declared.bid.Bid.{Bid}
 use Rattle.book.specs.Books.{number_with, units_from, limit_to}
 
--- some live bid is so: the one at some place
-abbrev pub Exists : (Bid → Type 0) → List Bid → Type 0
-Exists P bids = (k : ℕ) × (k < length bids) × HoldsAt P bids k
-
 -- r is the lowest number of a live bid with the token t, or there is no such bid
 abbrev pub Lowest : List ℕ → List Bid → Option ℕ → Type 0
-Lowest t bids None = AllByRecursion (λ b. b.token ≢ t) bids
-Lowest t bids (Some n) = Exists (λ b. (b.token ≡ t) × (b.number ≡ n)) bids × AllByRecursion (λ b. b.token ≡ t → n ≤ b.number) bids
+Lowest t bids None = All (λ b. b.token ≢ t) bids
+Lowest t bids (Some n) = Any (λ b. (b.token ≡ t) × (b.number ≡ n)) bids × All (λ b. b.token ≡ t → n ≤ b.number) bids
 
 -- r is the highest limit of a live bid at or below p, or there is no such bid
 abbrev pub Highest : ℕ → List Bid → Option ℕ → Type 0
-Highest p bids None = AllByRecursion (λ b. p < b.limit) bids
-Highest p bids (Some l) = (l ≤ p) × Exists (λ b. b.limit ≡ l) bids × AllByRecursion (λ b. b.limit ≤ p → b.limit ≤ l) bids
+Highest p bids None = All (λ b. p < b.limit) bids
+Highest p bids (Some l) = (l ≤ p) × Any (λ b. b.limit ≡ l) bids × All (λ b. b.limit ≤ p → b.limit ≤ l) bids
 
 -- the units of the live bids with the limit p
 abbrev pub units_at : ℕ → List Bid → ℕ

@@ -3,8 +3,6 @@
 
 pub mod bid;
 pub mod laws;
-pub mod making;
 pub mod ranking;
 pub mod roll;
-pub(crate) mod scan;
 pub mod traits;

@@ -38,7 +38,7 @@ impl Ranking for PriceTime {
     ghost higher = { Prim.search rules };
 
     fn is_ahead(&self, a: &Bid, b: &Bid) -> bool {
-        a.limit > b.limit || (a.limit == b.limit && a.number < b.number)
+        b.limit.cmp(&a.limit).then(a.number.cmp(&b.number)).is_lt()
     }
 }
 
@@ -56,8 +56,10 @@ impl Ranking for PriceSize {
     ghost higher = { Prim.search rules };
 
     fn is_ahead(&self, a: &Bid, b: &Bid) -> bool {
-        a.limit > b.limit
-            || (a.limit == b.limit
-                && (a.units > b.units || (a.units == b.units && a.number < b.number)))
+        b.limit
+            .cmp(&a.limit)
+            .then(b.units.cmp(&a.units))
+            .then(a.number.cmp(&b.number))
+            .is_lt()
     }
 }

@@ -1,35 +1,75 @@
 // A book that keeps its bids in a run of slots.
-ghost use Rattle.std.specs.Prelude.{◌≡◌, ◌≤◌, vec_capacity};
-ghost use Rattle.book.specs.Books.{Sound};
-ghost use Rattle.book.specs.Once.{sound_in};
+ghost use Rattle.std.specs.Prelude.{◌≡◌, ◌<◌, ◌≤◌, min, false, [], length, slice_index_or, vec_len, vec_capacity, MatchOption};
+ghost use Rattle.std.specs.List.{HoldsAt};
+ghost use Rattle.std.specs.Str.{bytes_eq};
+ghost use Rattle.std.proofs.Common.{lit≤};
+ghost use Rattle.book.specs.Books.{Ascend, has_number, add_answer};
 
 use crate::bid::{Bid, Found, MAX_PRICE};
-use crate::scan::{check_add, limit_to, number_with, place, units_from};
 use crate::traits::{Book, PricedBook};
 use fault::Fault;
-
-mod empty;
 
 // A roll uses no more slots than these, so the units of all its bids add up in 64 bits.
 pub const MAX_SLOTS: usize = 65_536;
 
 // The live bids, in order of number, in memory that was handed in: there is always a slot for each bid up to the capacity.
+// The capacity is a limit and no length: fewer slots than the memory has, where more than 65,536 were handed in.
 #[derive(Drop)]
 pub struct Roll {
     bids: Vec<Bid>,
     capacity: usize,
     ghost reserved: { capacity ≤ vec_capacity bids },
     ghost few: { capacity ≤ 65536 },
-    ghost kept: { ∥ Sound bids.items capacity 19999999 ∥₁ },
+    ghost ascend: { Ascend bids.items },
+    ghost count: { length bids.items ≤ capacity },
 }
 
 impl Roll {
-    // The live bids.
-    fn live(&self) -> &[Bid]
-        ensures value { result.now ≡ self.now.bids.items }
-        ensures sound { Sound result.now self.now.capacity 19999999 }
+    ghost use Rattle.book.specs.Rolls.{bids_in, capacity_in};
+
+    // An empty roll over the slots, whatever they held.
+    pub fn new(mut slots: Vec<Bid>) -> Roll
+        ensures empty { bids_in result ≡ [] }
+        ensures capacity { capacity_in result ≡ min (vec_len slots) 65536 }
     {
-        self.bids.as_slice()
+        let capacity = slots.len().min(MAX_SLOTS);
+        slots.clear();
+        Roll {
+            bids: slots,
+            capacity,
+        }
+    }
+
+    // Whether a bid may be added under a top.
+    fn check_add(&self, top: u32, bid: &Bid) -> Result<(), Fault>
+        ensures { result ≡ add_answer self.now.bids.items self.now.capacity top bid.now }
+    {
+        if top < bid.limit {
+            return Err(Fault::AboveTop { top });
+        }
+        // Nested: after `if let .. && ..` a proof does not know that there was no last bid.
+        if let Some(last) = self.bids.last() {
+            if bid.number <= last.number {
+                return Err(Fault::NotAboveLast { last: last.number });
+            }
+        }
+        let count = self.count();
+        if self.capacity <= count {
+            return Err(Fault::BookFull {
+                capacity: self.capacity,
+            });
+        }
+        Ok(())
+    }
+
+    // The place of the bid with a number.
+    fn place(&self, number: u64) -> Option<usize>
+        ensures { MatchOption result (has_number number self.now.bids.items ≡ false)
+            (λ k. (k < length self.now.bids.items) × HoldsAt (λ b. b.number ≡ number) self.now.bids.items k) }
+    {
+        self.bids
+            .binary_search_by(|bid| bid.number.cmp(&number))
+            .ok()
     }
 }
 
@@ -40,18 +80,17 @@ impl Book for Roll {
 
     ghost top = { λ _. 19999999 };
 
-    ghost sound = { λ s. sound_in _ _ _ s.kept };
+    // No bid has a limit above the highest price.
+    ghost sound = { λ s. record { ascend = s.ascend; limits = λ k d _. (slice_index_or s.bids.items k d).fit.3; count = s.count; highest = lit≤ tt } };
 
     fn add(&mut self, bid: Bid) -> Result<(), Fault> {
-        check_add(self.live(), self.capacity, MAX_PRICE, &bid)?;
+        self.check_add(self.top(), &bid)?;
         self.bids.push_reserved(bid);
         Ok(())
     }
 
     fn remove(&mut self, number: u64) -> Result<(), Fault> {
-        let Some(at) = place(self.live(), number) else {
-            return Err(Fault::NotFound { number });
-        };
+        let at = self.place(number).ok_or(Fault::NotFound { number })?;
         self.bids.remove(at);
         Ok(())
     }
@@ -69,23 +108,38 @@ impl Book for Roll {
     }
 
     fn kth(&self, k: usize) -> Found {
-        match self.live().get(k) {
-            Some(bid) => Found::some(*bid),
-            None => Found::none(),
-        }
+        Found::from(self.bids.get(k).copied())
     }
 
     fn find_token(&self, token: &[u8; 14]) -> Option<u64> {
-        number_with(self.live(), token)
+        self.bids
+            .iter()
+            .find(|bid| same_token(&bid.token, token))
+            .map(|bid| bid.number)
     }
 }
 
 impl PricedBook for Roll {
     fn units_at_or_above(&self, price: u32) -> u64 {
-        units_from(self.live(), price)
+        self.bids
+            .iter()
+            .filter(|bid| bid.limit >= price)
+            .map(|bid| u64::from(bid.units))
+            .sum()
     }
 
     fn limit_at_or_below(&self, price: u32) -> Option<u32> {
-        limit_to(self.live(), price)
+        self.bids
+            .iter()
+            .filter(|bid| bid.limit <= price)
+            .map(|bid| bid.limit)
+            .max()
     }
+}
+
+// Whether two tokens are the same, compared byte by byte: a rule of the project, so no `==` of arrays.
+fn same_token(a: &[u8; 14], b: &[u8; 14]) -> bool
+    ensures { result ≡ bytes_eq a.now b.now }
+{
+    a.iter().zip(b).all(|(x, y)| x == y)
 }

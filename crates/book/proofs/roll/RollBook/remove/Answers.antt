@@ -1,22 +1,17 @@
-use Rattle.std.proofs.Common.{vec_items, refl, arith}
-use Rattle.book.proofs.Keeps.{none_removed, one_removed, sound_after_remove}
+use Rattle.std.proofs.Common.{◌<◌, ◌∙◌}
+use Rattle.std.proofs.lemmas.List.Quantifiers.{all_pairs_remove}
+use Rattle.book.specs.declared.bid.Bid.{Bid}
+use Rattle.book.proofs.Searches.{removed}
 use Rattle.book.proofs.roll.RollBook.remove.Goals as goal
 
-pub returns-in_default : goal.returns-in_default
-returns-in_default c =
+pub invariant_of-self-clause-ascend : goal.invariant_of-self-clause-ascend
+invariant_of-self-clause-ascend c =
     let s = c.args.self.now in
-    let xs = vec_items s.bids in
-    let none = none_removed c.live.result.now xs xs s.capacity 19999999 c.live.ensures.value c.live.ensures.sound c.args.number c.in_default.ensures in
-    record { answer = none; after = refl; capacity = refl; top = refl }
+    let found = rw c.in_ok-at.ensures.ok_part at c.place.ensures in
+    rw c.remove.ensures.items (all_pairs_remove (λ (a b : Bid). a.number < b.number) s.bids.items c.in_ok-at.at found.0 s.ascend)
 
-pub invariant_of-self : goal.invariant_of-self
-invariant_of-self c =
+pub returns-clause-after : goal.returns-clause-after
+returns-clause-after c =
     let s = c.args.self.now in
-    let after = sound_after_remove c.live.result.now (vec_items s.bids) (vec_items c.remove.new.self) s.capacity 19999999 c.live.ensures.value c.live.ensures.sound c.args.number c.in-Some.at c.in-Some.ensures.0 c.remove.ensures.items in
-    record { reserved = omega (arith, s.reserved, c.remove.ensures.capacity); few = s.few; kept = ∣ after ∣₁ }
-
-pub returns : goal.returns
-returns c =
-    let s = c.args.self.now in
-    let one = one_removed c.live.result.now (vec_items s.bids) (vec_items c.remove.new.self) s.capacity 19999999 c.live.ensures.value c.live.ensures.sound c.args.number c.in-Some.at c.in-Some.ensures.0 c.remove.ensures.items c.in-Some.ensures.1 in
-    record { answer = one.0; after = one.1; capacity = refl; top = refl }
+    let found = rw c.in_ok-at.ensures.ok_part at c.place.ensures in
+    c.remove.ensures.items ∙ removed s.bids.items s.ascend c.args.number c.in_ok-at.at found.0 found.1
