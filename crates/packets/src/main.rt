@@ -2,6 +2,7 @@
 #![tactic(auto)]
 
 use feed::{Front, Window};
+use lines::{BlockLine, PacketLine};
 use std::io;
 use std::io::{BufWriter, Read, Write};
 use wire::packet::Packet;
@@ -9,31 +10,34 @@ use wire::packet::Packet;
 mod lines;
 mod text;
 
-fn list_packet<W: Write>(out: &mut W, packet: &Packet<'_>) -> io::Result<()> {
-    lines::write_packet(out, packet)?;
+fn list_packet<W: Write>(out: &mut W, packet: Packet<'_>) -> io::Result<()> {
+    let line = PacketLine(packet);
+    writeln!(out, "{line}")?;
     for block in packet.blocks() {
-        lines::write_block(out, block)?;
+        let line = BlockLine(block);
+        writeln!(out, "{line}")?;
     }
     Ok(())
 }
 
 // Lists the stream until it ends or a packet is refused. Lines are written out before more input is waited for.
 fn list<R: Read, W: Write>(input: &mut R, out: &mut W, window: &mut Window) -> io::Result<()> {
+    // Every loop has to end, so this one counts.
     for _ in 0..u64::MAX {
         match window.front() {
-            Front::Whole { packet, size } => {
-                list_packet(out, &packet)?;
+            Ok(Front::Whole { packet, size }) => {
+                list_packet(out, packet)?;
                 window.advance(size);
             }
-            Front::Refused(fault) => {
-                lines::write_fault(out, "FAULT", fault)?;
-                break;
-            }
-            Front::Wanting => {
+            Ok(Front::Wanting) => {
                 out.flush()?;
                 window.fill(input)?;
             }
-            Front::Ended => break,
+            Ok(Front::Ended) => break,
+            Err(fault) => {
+                writeln!(out, "FAULT {fault}")?;
+                break;
+            }
         }
     }
     out.flush()

@@ -1,6 +1,5 @@
 // A roll's answers, its refusals at their edges, and who is ahead in a tie.
-use book::bid::Bid;
-use book::making::slots;
+use book::bid::{Bid, slots};
 use book::ranking::{PriceSize, PriceTime, Ranking};
 use book::roll::Roll;
 use book::traits::{Book, PricedBook};

@@ -29,10 +29,10 @@ fn numbered_from_1_to_24(rt: HostRuntime) {
         Fault::WrongStage { stage: 23 },
         Fault::TooFewPlaces { live: 24 },
     ];
-    let mut place: u64 = 1;
-    for fault in faults {
-        assert_eq!(rt; u64::from(fault.number()), place);
-        assert_eq!(rt; fault.beside(), place);
+    assert_eq!(rt; faults.len(), 24);
+    for (fault, place) in faults.into_iter().zip(1..25) {
+        assert_eq!(rt; fault.number(), place);
+        assert_eq!(rt; fault.beside(), u64::from(place));
         let layer = match place {
             1..=5 => Layer::Packet,
             8 | 9 => Layer::Message,
@@ -40,7 +40,5 @@ fn numbered_from_1_to_24(rt: HostRuntime) {
             _ => Layer::Day,
         };
         assert_eq!(rt; fault.layer(), layer);
-        place = place.saturating_add(1);
     }
-    assert_eq!(rt; place, 25);
 }

@@ -2,8 +2,7 @@
 use fault::Fault;
 use std::test::Fail;
 use wire::message::{Message, Terms};
-use wire::packet::Packet;
-use wire::read::read_message;
+use wire::packet::{Block, Packet};
 
 // session "SESSION001", first number 7, two blocks: one of one byte, an empty one
 const TWO_BLOCKS: [u8; 25] = *b"SESSION001\0\0\0\0\0\0\0\x07\0\x02\0\x01T\0\0";
@@ -31,12 +30,12 @@ fn blocks_by_place(rt: HostRuntime) -> Result<(), Fail> {
 fn terms(side: u8, price: u32) -> Result<Terms, Fault> {
     let mut order = *b"OTOKEN-00000001?\0\0\0\x01EVIX    ????\0\0\0\0BRKA.........";
     order[15] = side;
-    let [a, b, c, d] = price.to_be_bytes();
-    order[28] = a;
-    order[29] = b;
-    order[30] = c;
-    order[31] = d;
-    match read_message(5, &order)? {
+    order[28..32].copy_from_slice(&price.to_be_bytes());
+    let block = Block {
+        number: 5,
+        bytes: &order,
+    };
+    match block.message()? {
         Message::Order(o) => Ok(o.terms),
         _ => Err(Fault::Malformed { number: 0 }),
     }
