@@ -1,7 +1,8 @@
 -- How a walk over the blocks of a packet goes on.
-use Rattle.std.proofs.Common.{◌≡◌, ℕ, zero, suc, ◌+◌, ◌-◌, ◌^◌, ◌<◌, ◌≤◌, cond, ltb, leb, List, length, take, drop, Some, None, Ok, Option, Result, refl, ap, inl, inr, suc-add, zero-add, add-one, arith}
+use Rattle.std.proofs.Common.{◌≡◌, ℕ, zero, suc, ◌+◌, ◌-◌, ◌^◌, ◌<◌, ◌≤◌, cond, ltb, leb, List, length, take, drop, Some, None, Ok, Option, Result, sym, refl, ap, inl, inr, suc-add, zero-add, add-one, arith}
 use Rattle.std.proofs.lemmas.List.{take_rest, length-drop}
 use Rattle.std.proofs.lemmas.Bool.{le-ltb, lt-leb, cases_lt}
+use Rattle.std.proofs.lemmas.Option.{none-some}
 use Rattle.std.proofs.lemmas.Bool.Decides.{nat_tests}
 use Rattle.std.specs.Option.{option_or}
 use Rattle.fault.specs.declared.Fault.{Fault}
@@ -26,7 +27,7 @@ stops bs f i at n l e h b =
 
 pub both_none : (a b : Option Fault) → option_or a b ≡ None → (a ≡ None) × (b ≡ None)
 both_none None b h = (refl, h)
-both_none (Some f) b h = absurd (let z : ◌≡◌ {A = ℕ} 0 1 = cc in omega arith)
+both_none (Some f) b h = absurd (none-some f (sym h))
 
 -- where the first m blocks have no fault, none of them has one
 pub none_before : (bs : List ℕ) (k m : ℕ) → k < m → first_fault bs m ≡ None → block_fault bs (block_at bs k) ≡ None

@@ -1,7 +1,8 @@
 // The layouts of the four kinds of message.
-ghost use Rattle.std.specs.Prelude.{◌≡◌, ℕ, ◌<◌, List, length, Result as Answer};
+ghost use Rattle.std.specs.Prelude.{◌≡◌, ℕ, ◌+◌, ◌<◌, ◌≤◌, List, length, Result as Answer};
 ghost use Rattle.fault.specs.declared.Fault.{Fault as Refusal};
 ghost use Rattle.std.proofs.Common.{rules};
+ghost use Rattle.wire.specs.Bytes.{value};
 ghost use Rattle.wire.specs.Messages.{Meaning, meant, of_kind, second_of, action_of, order_of, cancel_of, by_second, by_action, by_order, by_cancel};
 
 use crate::message::{Cancel, Order, Second, Side, State, Terms, TradingAction, allowed_units};
@@ -21,7 +22,7 @@ pub(crate) trait Shape {
 }
 
 // A layout has a kind letter and a length of its own, and a view of the fields that borrows the bytes. The constants stand
-// in a trait of their own, since the check knows a constant's value only in an impl without a lifetime.
+// in a trait of their own: beside a view that names a lifetime the check does not take them.
 pub(crate) trait Layout<'a>: Shape {
     type View;
 
@@ -35,6 +36,14 @@ pub(crate) trait Layout<'a>: Shape {
 
     // A message has a first byte.
     ghost some: { 0 < Self.LENGTH };
+}
+
+// The number in the four bytes at an offset.
+fn number_at(bytes: &[u8], at: usize) -> u32
+    requires { at + 4 ≤ length bytes.now }
+    ensures { result ≡ value at 4 bytes.now }
+{
+    BigEndian::read_u32(&bytes[at..])
 }
 
 pub(crate) struct SecondLayout;
@@ -60,7 +69,7 @@ impl<'a> Layout<'a> for SecondLayout {
 
     fn view(bytes: &'a [u8]) -> Result<Second, Fault> {
         Ok(Second {
-            second: BigEndian::read_u32(&bytes[1..]),
+            second: number_at(bytes, 1),
         })
     }
 }
@@ -117,12 +126,8 @@ impl<'a> Layout<'a> for OrderLayout {
 
     fn view(bytes: &'a [u8]) -> Result<Order<'a>, Fault> {
         let side = Side::try_from(bytes[15]).map_err(|refused| refused.at(15))?;
-        let units = allowed_units(BigEndian::read_u32(&bytes[16..])).map_err(|refused| refused.at(
-            16,
-        ))?;
-        let terms = Terms::read(side, BigEndian::read_u32(&bytes[28..])).map_err(
-            |refused| refused.at(28),
-        )?;
+        let units = allowed_units(number_at(bytes, 16)).map_err(|refused| refused.at(16))?;
+        let terms = Terms::read(side, number_at(bytes, 28)).map_err(|refused| refused.at(28))?;
         Ok(Order {
             token: &bytes[1..15],
             terms,
@@ -157,7 +162,7 @@ impl<'a> Layout<'a> for CancelLayout {
     fn view(bytes: &'a [u8]) -> Result<Cancel<'a>, Fault> {
         Ok(Cancel {
             token: &bytes[1..15],
-            units: BigEndian::read_u32(&bytes[15..]),
+            units: number_at(bytes, 15),
         })
     }
 }

@@ -1,4 +1,5 @@
-// The four kinds of message, and what their fields may hold.
+// The four kinds of message, and what their fields may hold. Kinds, sides and states are told by letters, and matched as
+// letters: a rule of the project.
 ghost use Rattle.std.specs.Prelude.{◌≡◌};
 ghost use Rattle.fault.specs.declared.Fault.TheVariants.{FieldNotAllowed};
 ghost use Rattle.wire.specs.Fields.{or_not_allowed, side_of, state_of, units_of, cents_of, terms_of};
@@ -8,7 +9,7 @@ use std::error::Error;
 use std::fmt;
 
 // T: a second of the day begins.
-#[derive(Clone, Copy)]
+#[derive(Clone, Copy, PartialEq, Eq, Debug)]
 pub struct Second {
     pub second: u32,
 }
@@ -20,7 +21,7 @@ pub enum State {
 }
 
 // H: the trading state of a stock.
-#[derive(Clone, Copy)]
+#[derive(Clone, Copy, PartialEq, Eq, Debug)]
 pub struct TradingAction<'a> {
     pub stock: &'a [u8],
     pub state: State,
@@ -42,7 +43,7 @@ pub enum Terms {
 }
 
 // O: a bid, or the issuer's sale.
-#[derive(Clone, Copy)]
+#[derive(Clone, Copy, PartialEq, Eq, Debug)]
 pub struct Order<'a> {
     pub token: &'a [u8],
     pub terms: Terms,
@@ -52,14 +53,14 @@ pub struct Order<'a> {
 }
 
 // X: takes back the order with the token, or reduces the sale to the units wanted.
-#[derive(Clone, Copy)]
+#[derive(Clone, Copy, PartialEq, Eq, Debug)]
 pub struct Cancel<'a> {
     pub token: &'a [u8],
     pub units: u32,
 }
 
 // A message read: its token, stock and firm are parts of the bytes that it was read from.
-#[derive(Clone, Copy)]
+#[derive(Clone, Copy, PartialEq, Eq, Debug)]
 pub enum Message<'a> {
     Second(Second),
     TradingAction(TradingAction<'a>),

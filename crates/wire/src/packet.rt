@@ -32,7 +32,7 @@ pub enum Purpose {
 }
 
 // A message in a packet, with its number.
-#[derive(Clone, Copy)]
+#[derive(Clone, Copy, PartialEq, Eq, Debug)]
 pub struct Block<'a> {
     pub number: u64,
     pub bytes: &'a [u8],
@@ -46,7 +46,7 @@ pub struct Packet<'a> {
 }
 
 // A walk over the blocks of a packet: the next one is at the offset `at` and has the number `number`, if any is left. An
-// offset and no shorter slice, since `block_at` and the faults count from the packet's front.
+// offset and no shorter slice, since offsets count from the packet's front, as in `block_at`.
 #[derive(Drop)]
 pub struct Blocks<'a> {
     packet: Packet<'a>,
@@ -79,7 +79,7 @@ fn blocks_carried(count: u16) -> u16
 }
 
 // Where the block ends whose length field is at `at`. The faults and the limit count from the packet's front, so an offset
-// goes with the bytes.
+// goes with the bytes. It may be any number, so the sums may pass 64 bits.
 fn block_end(bytes: &[u8], at: usize) -> Result<usize, Fault>
     ensures { MatchResult result (λ e. (block_fault bytes.now at ≡ Nothing) × (e ≡ at + 2 + value at 2 bytes.now) × (e ≤ 1472) × (e ≤ length bytes.now)) (λ f. block_fault bytes.now at ≡ Just f) }
 {

@@ -8,7 +8,7 @@ impl<'a> Block<'a> {
     ghost use Rattle.std.specs.Prelude.{◌≡◌};
     ghost use Rattle.wire.specs.Messages.{meant, by_message, message_of};
 
-    // The message in the block: its bytes, exactly.
+    // The message in the block: its bytes, exactly. The kinds are matched as letters: a rule of the project.
     pub fn message(&self) -> Result<Message<'a>, Fault>
         ensures { meant by_message result ≡ message_of self.now.number self.now.bytes.now }
     {

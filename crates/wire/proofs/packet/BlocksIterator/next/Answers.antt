@@ -28,14 +28,10 @@ overflow_add-end c =
     let v = c.read_u16.ensures ∙ read_at c.args.self.now.at 2 c.args.self.now.packet.bytes.now in
     search rules
 
-pub invariant_of-self : goal.invariant_of-self
-invariant_of-self c =
+pub invariant_of-self-clause-here : goal.invariant_of-self-clause-here
+invariant_of-self-clause-here c =
     let w = c.args.self.now in
     let n = blocks_of w.packet.bytes.now in
     let v = c.read_u16.ensures ∙ read_at w.at 2 w.packet.bytes.now in
     let next : n - (w.left - 1) ≡ suc (n - w.left) = omega (arith, w.few, c.if-self-eq0.false) in
-    record {
-      few = omega (arith, w.few);
-      here = rw (next, ← w.here) (omega (arith, v, c.from.ensures));
-      counted = omega (arith, w.counted, next);
-    }
+    rw (next, ← w.here) (omega (arith, v, c.from.ensures))
