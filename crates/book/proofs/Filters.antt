@@ -1,9 +1,9 @@
 -- What a test keeps of a list: sums, the best number, and all but one place.
-use Rattle.std.proofs.Common.{◌≡◌, ℕ, zero, suc, ◌+◌, ◌<◌, Bool, true, false, cond, List, [], ◌∷◌, map, length, get_or, fold, sum_by, filter, sym, refl, ap, ◌∙◌, subst, ⊎_elim, arith}
+use Rattle.std.proofs.Common.{◌≡◌, ℕ, zero, suc, ◌+◌, ◌<◌, Bool, true, false, cond, List, [], ◌∷◌, map, length, get_or, Some, None, Option, fold, sum_by, filter, sym, refl, ap, ◌∙◌, subst, ⊎_elim, arith}
 use Rattle.std.specs.Cmp.{IsStrictWeakOrder}
-use Rattle.std.specs.List.{remove, All, Any, Contains}
+use Rattle.std.specs.List.{remove, reduce, All, Any, Contains}
 use Rattle.std.proofs.lemmas.List.{get_or_default}
-use Rattle.std.proofs.lemmas.List.Elements.{All-nil, All-cons, All-head, All-tail}
+use Rattle.std.proofs.lemmas.List.Elements.{All-nil, All-cons, All-head, All-same, All-tail, All-weaker}
 use Rattle.std.proofs.lemmas.List.Folds.{fold_along}
 use Rattle.std.proofs.lemmas.List.MinMax.{IsFirstBest-from_best_of}
 use Rattle.std.proofs.lemmas.List.Sums.{sum_by-cons}
@@ -12,8 +12,12 @@ use Rattle.std.proofs.lemmas.Bool.{cases_Bool, cases_eq, cond-true, cond-false, 
 
 -- ---- sums
 -- one element more, kept or not
-pub sum_kept : {X : Type 0} (f : X → ℕ) (q : X → Bool) (x : X) (xs : List X) → sum_by f (filter q (x ∷ xs)) ≡ cond (q x) (f x) 0 + sum_by f (filter q xs)
-sum_kept f q x xs = ⊎_elim (λ t. grind (arith, t, sum_by-cons f x (filter q xs))) (λ e. grind (arith, e)) (cases_Bool (q x))
+pub sum_kept_more : {X : Type 0} (f : X → ℕ) (q : X → Bool) (x : X) (xs : List X) → sum_by f (filter q (x ∷ xs)) ≡ cond (q x) (f x) 0 + sum_by f (filter q xs)
+sum_kept_more f q x xs = ⊎_elim (λ t. grind (arith, t, sum_by-cons f x (filter q xs))) (λ e. grind (arith, e)) (cases_Bool (q x))
+
+pub sum_kept : {X : Type 0} (f : X → ℕ) (q : X → Bool) (xs : List X) → sum_by f (filter q xs) ≡ sum_by (λ x. cond (q x) (f x) 0) xs
+sum_kept f q [] = refl
+sum_kept f q (x ∷ xs) = sum_kept_more f q x xs ∙ ap (λ n. cond (q x) (f x) 0 + n) (sum_kept f q xs) ∙ sym (sum_by-cons (λ y. cond (q y) (f y) 0) x xs)
 
 -- ---- the best of some numbers, which op picks of two
 module _ (beats : ℕ → ℕ → Bool) (order : IsStrictWeakOrder beats) (op : ℕ → ℕ → ℕ) (picks : (a x : ℕ) → op a x ≡ cond (beats x a) x a) where
@@ -48,6 +52,26 @@ module _ {X : Type 0} (f : X → ℕ) (q : X → Bool) where
       (cases_eq (f x) m))
       (λ e. there (λ y. (q y ≡ true) × (f y ≡ m)) x xs (any_back m xs (subst (λ (ys : List X). Contains (map f ys) m) (cond-false _ _ _ e) h)))
       (cases_Bool (q x))
+
+-- ---- the best number of what a test keeps
+module _ {X : Type 0} (f : X → ℕ) (q : X → Bool) where
+  -- r is the number of some x that passes and stands in R to that of each, or none passes
+  abbrev pub Best : (ℕ → ℕ → Type 0) → List X → Option ℕ → Type 0
+  Best R xs None = All (λ x. q x ≡ true → ⊥) xs
+  Best R xs (Some m) = Any (λ x. (q x ≡ true) × (f x ≡ m)) xs × All (λ x. q x ≡ true → R m (f x)) xs
+
+  module _ (beats : ℕ → ℕ → Bool) (order : IsStrictWeakOrder beats) (op : ℕ → ℕ → ℕ) (picks : (a x : ℕ) → op a x ≡ cond (beats x a) x a) (R : ℕ → ℕ → Type 0) (stands : (k m : ℕ) → beats k m ≡ false → R m k) where
+    best_of : (xs : List X) (ns : List ℕ) → map f (filter q xs) ≡ ns → Best R xs (reduce op ns)
+    best_of xs [] e = all_back f q (λ _. ⊥) xs (All-same (λ _. ⊥) _ [] e (All-nil (λ _. ⊥)))
+    best_of xs (n ∷ ns) e =
+        let m = fold op n ns in
+        let best = best_of_all beats order op picks n ns in (
+          any_back f q m xs (subst (λ (ys : List ℕ). Contains ys m) (sym e) best.0),
+          all_back f q (R m) xs (All-same (R m) _ (n ∷ ns) e (All-weaker (λ k. beats k m ≡ false) (R m) (λ k. stands k m) (n ∷ ns) best.1)),
+        )
+
+    pub best_kept : (xs : List X) → Best R xs (reduce op (map f (filter q xs)))
+    best_kept xs = best_of xs _ refl
 
 -- ---- a filter that keeps all, or all but one place
 module _ {X : Type 0} (q : X → Bool) where

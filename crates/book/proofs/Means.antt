@@ -1,8 +1,7 @@
 -- The answers of a book mean what they say.
-use Rattle.std.proofs.Common.{◌≡◌, ℕ, ◌+◌, ◌<◌, ◌≤◌, min, max, true, false, cond, eqb, leb, ltb, List, [], ◌∷◌, map, fold, sum_by, filter, sym, refl, ap, ◌∙◌, subst, ⊎_elim, arith}
-use Rattle.std.specs.List.{Contains, reduce}
+use Rattle.std.proofs.Common.{◌≡◌, ℕ, ◌+◌, ◌<◌, ◌≤◌, min, max, true, cond, eqb, leb, ltb, List, [], ◌∷◌, Some, None, Option, sum_by, refl, ap, ◌∙◌, ⊎_elim, arith}
 use Rattle.std.specs.Str.{bytes_eq}
-use Rattle.std.proofs.lemmas.List.Elements.{All-nil, All-same, All-weaker}
+use Rattle.std.proofs.lemmas.List.Elements.{All-weaker}
 use Rattle.std.proofs.lemmas.List.MinMax.{IsStrictWeakOrder-by_number, IsStrictWeakOrder-flip}
 use Rattle.std.proofs.lemmas.Slice.Eq.{bytes_eq-Decides}
 use Rattle.std.proofs.lemmas.Bool.{cases_lt, cond-false, leb-true, le-leb, lt-leb, ltb-false}
@@ -10,7 +9,7 @@ use Rattle.std.proofs.lemmas.Bool.Decides.{nat_tests}
 use Rattle.book.specs.declared.bid.Bid.{Bid}
 use Rattle.book.specs.Books.{units_from}
 use Rattle.book.specs.Laws.{Lowest, Highest, units_at, Answers}
-use Rattle.book.proofs.Filters.{sum_kept, all_back, any_back, best_of_all}
+use Rattle.book.proofs.Filters.{sum_kept_more, Best, best_kept}
 
 -- ---- units by the cent
 one_cent : (p : ℕ) (b : Bid) → cond (leb p b.limit) b.units 0 ≡ cond (leb (p + 1) b.limit) b.units 0 + cond (eqb b.limit p) b.units 0
@@ -22,48 +21,36 @@ units_level p (b ∷ bids) = omega (
   arith,
   one_cent p b,
   units_level p bids,
-  sum_kept (λ (x : Bid). x.units) (λ x. leb p x.limit) b bids,
-  sum_kept (λ (x : Bid). x.units) (λ x. leb (p + 1) x.limit) b bids,
-  sum_kept (λ (x : Bid). x.units) (λ x. eqb x.limit p) b bids,
+  sum_kept_more (λ (x : Bid). x.units) (λ x. leb p x.limit) b bids,
+  sum_kept_more (λ (x : Bid). x.units) (λ x. leb (p + 1) x.limit) b bids,
+  sum_kept_more (λ (x : Bid). x.units) (λ x. eqb x.limit p) b bids,
 )
 
 units_none : (p : ℕ) → 19999999 < p → (bids : List Bid) → units_from p bids ≡ 0
 units_none p h [] = refl
 units_none p h (b ∷ bids) = ap (sum_by (λ (x : Bid). x.units)) (cond-false _ _ _ (lt-leb p b.limit (omega (arith, b.fit.3)))) ∙ units_none p h bids
 
--- ---- the two questions: ns are the numbers that stand there for the bids that pass
-lowest_of : (t : List ℕ) (bids : List Bid) (ns : List ℕ) → map (λ b. b.number) (filter (λ b. bytes_eq b.token t) bids) ≡ ns → Lowest t bids (reduce min ns)
-lowest_of t bids [] e = All-weaker (λ b. bytes_eq b.token t ≡ true → ⊥) (λ b. b.token ≡ t → ⊥) (λ b no s. no ((bytes_eq-Decides b.token t).1 s)) bids
-    (all_back (λ b. b.number) (λ b. bytes_eq b.token t) (λ _. ⊥) bids (All-same (λ _. ⊥) _ [] e (All-nil (λ _. ⊥))))
-lowest_of t bids (n ∷ ns) e =
-    let m = fold min n ns in
-    let best = best_of_all (λ x y. ltb x y) (IsStrictWeakOrder-by_number (λ x. x)) min (λ a x. grind (arith, nat_tests)) n ns in
-    let found = any_back (λ (b : Bid). b.number) (λ b. bytes_eq b.token t) m bids (subst (λ (ys : List ℕ). Contains ys m) (sym e) best.0) in (
-      (found.0, found.1, found.2, found.3, ((bytes_eq-Decides found.1.token t).0 found.4.0, found.4.1)),
-      All-weaker (λ b. bytes_eq b.token t ≡ true → m ≤ b.number) (λ b. b.token ≡ t → m ≤ b.number) (λ b w s. w ((bytes_eq-Decides b.token t).1 s)) bids
-          (all_back (λ b. b.number) (λ b. bytes_eq b.token t) (λ k. m ≤ k) bids
-          (All-same (λ k. m ≤ k) _ (n ∷ ns) e (All-weaker (λ k. ltb k m ≡ false) (λ k. m ≤ k) (λ k. ltb-false k m) (n ∷ ns) best.1))),
-    )
+-- ---- the two questions
+lowest_of : (t : List ℕ) (bids : List Bid) (r : Option ℕ) → Best (λ b. b.number) (λ b. bytes_eq b.token t) ◌≤◌ bids r → Lowest t bids r
+lowest_of t bids None h = All-weaker (λ b. bytes_eq b.token t ≡ true → ⊥) (λ b. b.token ≡ t → ⊥) (λ b no s. no ((bytes_eq-Decides b.token t).1 s)) bids h
+lowest_of t bids (Some n) (found, least) = (
+  (found.0, found.1, found.2, found.3, ((bytes_eq-Decides found.1.token t).0 found.4.0, found.4.1)),
+  All-weaker (λ b. bytes_eq b.token t ≡ true → n ≤ b.number) (λ b. b.token ≡ t → n ≤ b.number) (λ b w s. w ((bytes_eq-Decides b.token t).1 s)) bids least,
+)
 
-highest_of : (p : ℕ) (bids : List Bid) (ns : List ℕ) → map (λ b. b.limit) (filter (λ b. leb b.limit p) bids) ≡ ns → Highest p bids (reduce max ns)
-highest_of p bids [] e = All-weaker (λ b. leb b.limit p ≡ true → ⊥) (λ b. p < b.limit)
-    (λ b no. ⊎_elim (λ lt. lt) (λ ge. absurd (no (le-leb b.limit p ge))) (cases_lt p b.limit)) bids
-    (all_back (λ b. b.limit) (λ b. leb b.limit p) (λ _. ⊥) bids (All-same (λ _. ⊥) _ [] e (All-nil (λ _. ⊥))))
-highest_of p bids (n ∷ ns) e =
-    let m = fold max n ns in
-    let best = best_of_all (λ x y. ltb y x) (IsStrictWeakOrder-flip ltb (IsStrictWeakOrder-by_number (λ x. x))) max (λ a x. grind (arith, nat_tests)) n ns in
-    let found = any_back (λ (b : Bid). b.limit) (λ b. leb b.limit p) m bids (subst (λ (ys : List ℕ). Contains ys m) (sym e) best.0) in (
-      omega (arith, leb-true found.1.limit p found.4.0, found.4.1),
-      (found.0, found.1, found.2, found.3, found.4.1),
-      All-weaker (λ b. leb b.limit p ≡ true → b.limit ≤ m) (λ b. b.limit ≤ p → b.limit ≤ m) (λ b w s. w (le-leb b.limit p s)) bids
-          (all_back (λ b. b.limit) (λ b. leb b.limit p) (λ k. k ≤ m) bids
-          (All-same (λ k. k ≤ m) _ (n ∷ ns) e (All-weaker (λ k. ltb m k ≡ false) (λ k. k ≤ m) (λ k. ltb-false m k) (n ∷ ns) best.1))),
-    )
+highest_of : (p : ℕ) (bids : List Bid) (r : Option ℕ) → Best (λ b. b.limit) (λ b. leb b.limit p) (λ m k. k ≤ m) bids r → Highest p bids r
+highest_of p bids None h = All-weaker (λ b. leb b.limit p ≡ true → ⊥) (λ b. p < b.limit)
+    (λ b no. ⊎_elim (λ lt. lt) (λ ge. absurd (no (le-leb b.limit p ge))) (cases_lt p b.limit)) bids h
+highest_of p bids (Some l) (found, most) = (
+  omega (arith, leb-true found.1.limit p found.4.0, found.4.1),
+  (found.0, found.1, found.2, found.3, found.4.1),
+  All-weaker (λ b. leb b.limit p ≡ true → b.limit ≤ l) (λ b. b.limit ≤ p → b.limit ≤ l) (λ b w s. w (le-leb b.limit p s)) bids most,
+)
 
 pub answers : (bids : List Bid) → Answers bids
 answers bids = record {
-  lowest = λ t. lowest_of t bids _ refl;
-  highest = λ p. highest_of p bids _ refl;
+  lowest = λ t. lowest_of t bids _ (best_kept (λ b. b.number) (λ b. bytes_eq b.token t) (λ x y. ltb x y) (IsStrictWeakOrder-by_number (λ x. x)) min (λ a x. grind (arith, nat_tests)) ◌≤◌ (λ k m. ltb-false k m) bids);
+  highest = λ p. highest_of p bids _ (best_kept (λ b. b.limit) (λ b. leb b.limit p) (λ x y. ltb y x) (IsStrictWeakOrder-flip ltb (IsStrictWeakOrder-by_number (λ x. x))) max (λ a x. grind (arith, nat_tests)) (λ m k. k ≤ m) (λ k m. ltb-false m k) bids);
   level = λ p. units_level p bids;
   none = λ p h. units_none p h bids;
 }

@@ -1,5 +1,5 @@
 -- Searches among bids whose numbers ascend.
-use Rattle.std.proofs.Common.{◌≡◌, ℕ, suc, ◌-◌, ◌<◌, ◌≤◌, min, true, false, not, eqb, ltb, List, [], ◌∷◌, map, length, get_or, Some, None, Ok, Err, filter, fold, Result, MatchOption, sym, refl, ap, ◌∙◌, ⊎_elim, arith}
+use Rattle.std.proofs.Common.{◌≡◌, ℕ, suc, ◌-◌, ◌<◌, ◌≤◌, min, true, false, not, eqb, ltb, List, [], ◌∷◌, map, length, get_or, Some, Ok, Err, filter, fold, Result, MatchOption, sym, refl, ap, ◌∙◌, ⊎_elim, arith}
 use Rattle.std.specs.List.{All, HoldsAt, remove, find, slice_get}
 use Rattle.std.specs.List.Sorted.{IsSearchInRange, IsBinarySearchResult, IsNonDecreasingBy}
 use Rattle.std.specs.Option.{option_map}
@@ -10,7 +10,7 @@ use Rattle.std.proofs.lemmas.Cmp.{ranked}
 use Rattle.std.proofs.lemmas.List.Elements.{All-filter, All-map, All-tail}
 use Rattle.std.proofs.lemmas.List.Folds.{list_any_none}
 use Rattle.std.proofs.lemmas.List.Sums.{list_all-from_AllPass}
-use Rattle.std.proofs.lemmas.Option.{none-some, slice_get_within, slice_get-get_or, get_or_from_slice_get}
+use Rattle.std.proofs.lemmas.Option.{slice_get_within, get_or_from_slice_get}
 use Rattle.std.proofs.lemmas.Bool.{cases_Bool, cases_lt, cases_order, lt-ltb, eq-eqb, ne_eqb, not_from_true, not_from_false}
 use Rattle.std.proofs.lemmas.Bool.Decides.{nat_tests}
 use Rattle.book.specs.declared.bid.Bid.{Bid}
@@ -41,7 +41,7 @@ module _ (bids : List Bid) (up : Ascend bids) (n : ℕ) where
       (cases_order k at)))))
 
 -- the least of numbers of which the first is the least
-fold_least : (n : ℕ) (ns : List ℕ) → All (λ m. n ≤ m) ns → fold min n ns ≡ n
+pub fold_least : (n : ℕ) (ns : List ℕ) → All (λ m. n ≤ m) ns → fold min n ns ≡ n
 fold_least n [] h = refl
 fold_least n (m ∷ ns) h =
     let e : min n m ≡ n = omega (arith, h 0 m (omega arith)) in
@@ -71,7 +71,3 @@ module _ (bids : List Bid) (last : Bid) (is : slice_get bids (length bids - 1) �
       (λ before. omega (arith, up k (length bids - 1) d before some0))
       (λ at. let same : k ≡ length bids - 1 = omega arith in omega (arith, ap (λ i. (get_or bids i d).number) same))
       (cases_lt k (length bids - 1))))
-
-pub above_none : (bids : List Bid) (n : ℕ) → slice_get bids (length bids - 1) ≡ None → above_all n bids ≡ true
-above_none [] n e = refl
-above_none (b ∷ bids) n e = absurd (none-some _ (sym e ∙ slice_get-get_or (b ∷ bids) (length (b ∷ bids) - 1) b (omega arith)))

@@ -44,9 +44,9 @@ impl Bid {
     }
 }
 
-// A bid, or none where the flag is down; what `bid` then holds is free, though `==` compares that too. A record and not an
+// A bid, or none where the flag is down; what `bid` then holds is free, so there is no `==`. A record and not an
 // `Option<Bid>`: a rule of the project.
-#[derive(Clone, Copy, Debug, PartialEq, Eq)]
+#[derive(Clone, Copy, Debug)]
 pub struct Found {
     pub found: bool,
     pub bid: Bid,

@@ -1,9 +1,11 @@
 // A book that keeps its bids in a run of slots.
-ghost use Rattle.std.specs.Prelude.{◌≡◌, ◌<◌, ◌≤◌, min, false, [], length, slice_index_or, vec_len, vec_capacity, MatchOption};
+ghost use Rattle.std.specs.Prelude.{◌≡◌, ◌<◌, ◌≤◌, min, false, not, [], ◌∷◌, length, slice_index_or, vec_len, vec_capacity, MatchOption};
 ghost use Rattle.std.specs.List.{HoldsAt};
 ghost use Rattle.std.specs.Str.{bytes_eq};
 ghost use Rattle.std.proofs.Common.{lit≤};
-ghost use Rattle.book.specs.Books.{Ascend, has_number, add_answer};
+ghost use Rattle.fault.specs.declared.Fault.TheVariants.{NotAboveLast};
+ghost use Rattle.fault.specs.Checks.{checked};
+ghost use Rattle.book.specs.Books.{Ascend, has_number, above_all, last_number, add_answer};
 
 use crate::bid::{Bid, Found, MAX_PRICE};
 use crate::traits::{Book, PricedBook};
@@ -40,6 +42,18 @@ impl Roll {
         }
     }
 
+    // Whether a number is above every live bid's: above the last one's, where there is one.
+    fn check_number(&self, number: u64) -> Result<(), Fault>
+        ensures { result ≡ checked ((not (above_all number self.now.bids.items), NotAboveLast (last_number self.now.bids.items)) ∷ []) tt }
+    {
+        match self.bids.last() {
+            Some(last) if number <= last.number => {
+                Err(Fault::NotAboveLast { last: last.number })
+            }
+            _ => Ok(()),
+        }
+    }
+
     // Whether a bid may be added under a top.
     fn check_add(&self, top: u32, bid: &Bid) -> Result<(), Fault>
         ensures { result ≡ add_answer self.now.bids.items self.now.capacity top bid.now }
@@ -47,12 +61,7 @@ impl Roll {
         if top < bid.limit {
             return Err(Fault::AboveTop { top });
         }
-        // Nested: after `if let .. && ..` a proof does not know that there was no last bid.
-        if let Some(last) = self.bids.last() {
-            if bid.number <= last.number {
-                return Err(Fault::NotAboveLast { last: last.number });
-            }
-        }
+        self.check_number(bid.number)?;
         let count = self.count();
         if self.capacity <= count {
             return Err(Fault::BookFull {
@@ -137,7 +146,7 @@ impl PricedBook for Roll {
     }
 }
 
-// Whether two tokens are the same, compared byte by byte: a rule of the project, so no `==` of arrays.
+// Whether two tokens are the same. Written out byte by byte: a rule of the project.
 fn same_token(a: &[u8; 14], b: &[u8; 14]) -> bool
     ensures { result ≡ bytes_eq a.now b.now }
 {
