@@ -12,8 +12,7 @@ impl fmt::Display for Quoted<'_> {
         for byte in self.0 {
             let c = char::from(*byte);
             match c {
-                '"' | '\\' => write!(f, "\\x{byte:02x}")?,
-                ' '..='~' => write!(f, "{c}")?,
+                ' '..='~' if c != '"' && c != '\\' => write!(f, "{c}")?,
                 _ => write!(f, "\\x{byte:02x}")?,
             }
         }

@@ -1,5 +1,6 @@
-// Every cause, with its number, its layer and what stands beside it.
+// Every cause, with its number, its layer and what stands beside it; and how a fault is shown.
 use fault::{Fault, Layer};
+use std::test::Fail;
 
 #[test]
 fn numbered_from_1_to_24(rt: HostRuntime) {
@@ -41,4 +42,12 @@ fn numbered_from_1_to_24(rt: HostRuntime) {
         };
         assert_eq!(rt; fault.layer(), layer);
     }
+}
+
+#[test]
+fn shown_on_one_line(rt: HostRuntime) -> Result<(), Fail> {
+    let fault = Fault::BookFull { capacity: 1024 };
+    let text = format!(in rt.alloc(); "{fault}")?;
+    assert_eq!(rt; text.as_str(), "17 book 1024: book full");
+    Ok(())
 }

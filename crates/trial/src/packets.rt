@@ -1,7 +1,7 @@
-// Blocks asked for by their place, and orders read at the edges of their fields.
+// Blocks asked for by their place, orders read at the edges of their fields, and letters of states.
 use fault::Fault;
 use std::test::Fail;
-use wire::message::{Message, Terms};
+use wire::message::{Message, NotAllowed, State, Terms};
 use wire::packet::{Block, Packet};
 
 // session "SESSION001", first number 7, two blocks: one of one byte, an empty one
@@ -17,13 +17,11 @@ fn blocks_by_place(rt: HostRuntime) -> Result<(), Fail> {
     let second = packet.block(1)?;
     assert_eq!(rt; second.number, 8);
     assert_eq!(rt; second.bytes.len(), 0);
-    match packet.block(2) {
-        Ok(_) => Err(Fail::new("there is no third block")),
-        Err(fault) => {
-            assert_eq!(rt; fault, Fault::NoSuchBlock { blocks: 2 });
-            Ok(())
-        },
-    }
+    assert_eq!(rt;
+        packet.block(2).err(),
+        Some(Fault::NoSuchBlock { blocks: 2 })
+    );
+    Ok(())
 }
 
 // The terms of the order of 1 unit on that side at that price, or the refusal.
@@ -58,5 +56,17 @@ fn terms_at_the_edges(rt: HostRuntime) -> Result<(), Fail> {
         terms(b'b', 0).err(),
         Some(Fault::FieldNotAllowed { offset: 15 })
     );
+    Ok(())
+}
+
+#[test]
+fn letters_of_states(rt: HostRuntime) -> Result<(), Fail> {
+    for letter in [b'H', b'P', b'Q'] {
+        assert_eq!(rt; State::try_from(letter), Ok(State::Halted));
+    }
+    assert_eq!(rt; State::try_from(b'T'), Ok(State::Trading));
+    assert_eq!(rt; State::try_from(b't'), Err(NotAllowed));
+    let text = format!(in rt.alloc(); "{NotAllowed}")?;
+    assert_eq!(rt; text.as_str(), "a value that the field may not have");
     Ok(())
 }

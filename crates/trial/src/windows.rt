@@ -54,10 +54,10 @@ fn told_as_soon_as_it_is_there(rt: HostRuntime) -> Result<(), Fail> {
     }
     window.advance(20);
     settle(&mut window, &mut input)?;
-    match window.front() {
-        Err(fault) => assert_eq!(rt; fault, Fault::ShortPacket { length: 5 }),
-        _ => return Err(Fail::new("five bytes are no packet")),
-    }
+    assert_eq!(rt;
+        window.front().err(),
+        Some(Fault::ShortPacket { length: 5 })
+    );
     window.advance(5);
     assert!(rt; matches!(window.front(), Ok(Front::Ended)));
     Ok(())
