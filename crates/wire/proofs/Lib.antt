@@ -2,4 +2,3 @@ mod Walks
 mod Further
 mod Backs
 mod Onlys
-mod Numbers

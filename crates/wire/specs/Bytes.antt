@@ -1,5 +1,4 @@
--- Fields of a list of bytes, by their offset from 0. Said here and not in the words of the library that reads them, so that
--- what it reads is checked.
+-- Fields of a list of bytes, by their offset from 0.
 use Rattle.std.specs.Prelude.{ℕ, zero, suc, ◌+◌, ◌*◌, List, take, drop, slice_index}
 
 -- the `size` bytes that start at `from`

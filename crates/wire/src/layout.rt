@@ -2,12 +2,11 @@
 ghost use Rattle.std.specs.Prelude.{◌≡◌, ℕ, ◌+◌, ◌<◌, ◌≤◌, List, length, Result as Answer};
 ghost use Rattle.fault.specs.declared.Fault.{Fault as Refusal};
 ghost use Rattle.std.proofs.Common.{rules};
-ghost use Rattle.wire.specs.Bytes.{value};
 ghost use Rattle.wire.specs.Messages.{Meaning, meant, of_kind, second_of, action_of, order_of, cancel_of, by_second, by_action, by_order, by_cancel};
 
+use crate::bytes::bytes_at;
 use crate::message::{Cancel, Order, Second, Side, State, Terms, TradingAction, allowed_units};
 use crate::packet::Block;
-use byteorder::{BigEndian, ByteOrder};
 use fault::Fault;
 
 // The kind letter and the length of a layout.
@@ -38,14 +37,6 @@ pub(crate) trait Layout<'a>: Shape {
     ghost some: { 0 < Self.LENGTH };
 }
 
-// The number in the four bytes at an offset.
-fn number_at(bytes: &[u8], at: usize) -> u32
-    requires { at + 4 ≤ length bytes.now }
-    ensures { result ≡ value at 4 bytes.now }
-{
-    BigEndian::read_u32(&bytes[at..])
-}
-
 pub(crate) struct SecondLayout;
 
 impl Shape for SecondLayout {
@@ -69,7 +60,7 @@ impl<'a> Layout<'a> for SecondLayout {
 
     fn view(bytes: &'a [u8]) -> Result<Second, Fault> {
         Ok(Second {
-            second: number_at(bytes, 1),
+            second: u32::from_be_bytes(bytes_at(bytes, 1)),
         })
     }
 }
@@ -126,8 +117,12 @@ impl<'a> Layout<'a> for OrderLayout {
 
     fn view(bytes: &'a [u8]) -> Result<Order<'a>, Fault> {
         let side = Side::try_from(bytes[15]).map_err(|refused| refused.at(15))?;
-        let units = allowed_units(number_at(bytes, 16)).map_err(|refused| refused.at(16))?;
-        let terms = Terms::read(side, number_at(bytes, 28)).map_err(|refused| refused.at(28))?;
+        let units = allowed_units(u32::from_be_bytes(bytes_at(bytes, 16))).map_err(
+            |refused| refused.at(16),
+        )?;
+        let terms = Terms::read(side, u32::from_be_bytes(bytes_at(bytes, 28))).map_err(
+            |refused| refused.at(28),
+        )?;
         Ok(Order {
             token: &bytes[1..15],
             terms,
@@ -162,7 +157,7 @@ impl<'a> Layout<'a> for CancelLayout {
     fn view(bytes: &'a [u8]) -> Result<Cancel<'a>, Fault> {
         Ok(Cancel {
             token: &bytes[1..15],
-            units: number_at(bytes, 15),
+            units: u32::from_be_bytes(bytes_at(bytes, 15)),
         })
     }
 }

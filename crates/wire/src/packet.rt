@@ -4,7 +4,7 @@ ghost use Rattle.wire.specs.Bytes.{value};
 ghost use Rattle.wire.specs.Packets.{carried, first_of, blocks_of, block_at, block_fault, first_fault, packet_fault, packet_of, followed_by, curable, Lasts};
 ghost use Rattle.std.specs.Iterator.{at_most};
 
-use byteorder::{BigEndian, ByteOrder};
+use crate::bytes::bytes_at;
 use fault::Fault;
 
 // The bytes of a packet before its blocks.
@@ -87,7 +87,7 @@ fn block_end(bytes: &[u8], at: usize) -> Result<usize, Fault>
         Some(body) if body <= bytes.len() => body,
         _ => return Err(Fault::BlockPastEnd { offset: at }),
     };
-    let end = body.saturating_add(usize::from(BigEndian::read_u16(&bytes[at..])));
+    let end = body.saturating_add(usize::from(u16::from_be_bytes(bytes_at(bytes, at))));
     if end > LIMIT {
         return Err(Fault::BlockPastLimit { offset: at });
     }
@@ -129,7 +129,7 @@ impl<'a> Iterator for Blocks<'a> {
             left,
         } = *self;
         let start = at + 2;
-        let end = start + usize::from(BigEndian::read_u16(&packet.bytes[at..]));
+        let end = start + usize::from(u16::from_be_bytes(bytes_at(packet.bytes, at)));
         *self = Blocks {
             packet,
             at: end,
@@ -158,8 +158,8 @@ impl<'a> Packet<'a> {
                 length: bytes.len(),
             });
         }
-        let first = BigEndian::read_u64(&bytes[10..]);
-        let blocks = blocks_carried(BigEndian::read_u16(&bytes[18..]));
+        let first = u64::from_be_bytes(bytes_at(bytes, 10));
+        let blocks = blocks_carried(u16::from_be_bytes(bytes_at(bytes, 18)));
         if first > u64::MAX - u64::from(blocks) {
             return Err(Fault::NumberTooLarge { first });
         }
@@ -188,14 +188,14 @@ impl<'a> Packet<'a> {
     pub fn first(&self) -> u64
         ensures { result ≡ (contents self.now).first }
     {
-        BigEndian::read_u64(&self.bytes[10..])
+        u64::from_be_bytes(bytes_at(self.bytes, 10))
     }
 
     // The count as it stands in the packet.
     pub fn count(&self) -> u16
         ensures { result ≡ (contents self.now).count }
     {
-        BigEndian::read_u16(&self.bytes[18..])
+        u16::from_be_bytes(bytes_at(self.bytes, 18))
     }
 
     pub fn purpose(&self) -> Purpose

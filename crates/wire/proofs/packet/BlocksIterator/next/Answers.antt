@@ -1,8 +1,7 @@
-use Rattle.std.proofs.Common.{◌≡◌, suc, ◌+◌, ◌-◌, ◌≤◌, length, ◌∙◌, arith, rules}
+use Rattle.std.proofs.Common.{◌≡◌, suc, ◌+◌, ◌-◌, ◌≤◌, length, arith, rules}
 use Rattle.wire.specs.Bytes.{value}
 use Rattle.wire.specs.Packets.{blocks_of}
 use Rattle.wire.specs.declared.packet.Blocks.{Blocks}
-use Rattle.wire.proofs.Numbers.{read_at}
 use Rattle.wire.proofs.Walks.{next_within}
 use Rattle.wire.proofs.packet.BlocksIterator.next.Goals as goal
 
@@ -10,28 +9,16 @@ use Rattle.wire.proofs.packet.BlocksIterator.next.Goals as goal
 within : (w : Blocks) → (w.left ≡ 0 → ⊥) → (w.at + 2 + value w.at 2 w.packet.bytes.now ≤ 1472) × (w.at + 2 + value w.at 2 w.packet.bytes.now ≤ length w.packet.bytes.now)
 within w some = next_within w.packet.bytes.now w.left w.at w.packet.whole w.few w.here some
 
+pub bytes_at-requires : goal.bytes_at-requires
+bytes_at-requires c = let b = within c.args.self.now c.if-self-eq0.false in omega arith
+
 pub overflow_add-start : goal.overflow_add-start
 overflow_add-start c = let b = within c.args.self.now c.if-self-eq0.false in search rules
-
-pub slice_bounds-read_u16-count : goal.slice_bounds-read_u16-count
-slice_bounds-read_u16-count c = let b = within c.args.self.now c.if-self-eq0.false in omega arith
-
-pub slice_bounds-read_u16-start : goal.slice_bounds-read_u16-start
-slice_bounds-read_u16-start c = let b = within c.args.self.now c.if-self-eq0.false in search rules
-
-pub read_u16-requires : goal.read_u16-requires
-read_u16-requires c = let b = within c.args.self.now c.if-self-eq0.false in search rules
-
-pub overflow_add-end : goal.overflow_add-end
-overflow_add-end c =
-    let b = within c.args.self.now c.if-self-eq0.false in
-    let v = c.read_u16.ensures ∙ read_at c.args.self.now.at 2 c.args.self.now.packet.bytes.now in
-    search rules
 
 pub invariant_of-self-clause-here : goal.invariant_of-self-clause-here
 invariant_of-self-clause-here c =
     let w = c.args.self.now in
     let n = blocks_of w.packet.bytes.now in
-    let v = c.read_u16.ensures ∙ read_at w.at 2 w.packet.bytes.now in
+    let size : c.from.result ≡ value w.at 2 w.packet.bytes.now = search rules in
     let next : n - (w.left - 1) ≡ suc (n - w.left) = omega (arith, w.few, c.if-self-eq0.false) in
-    rw (next, ← w.here) (omega (arith, v, c.from.ensures))
+    rw (next, ← w.here, ← size) (omega arith)
