@@ -2,7 +2,6 @@
 #![tactic(auto)]
 
 ghost use Rattle.std.specs.Prelude.{◌≡◌, ◌<◌, ◌≤◌, true, false, [], length, drop, IfOk, MatchResult};
-ghost use Rattle.feed.specs.Windows.{pending_in, ended_in, Extended, seen, sight_of, Right};
 
 use fault::Fault;
 use pending::Pending;
@@ -13,11 +12,12 @@ use wire::packet::{LOOKAHEAD, Packet, needs_more};
 
 mod pending;
 
-// `ended` is set once the input has said that it ends.
+// Never more than 1,473 + 8,192 bytes are pending: the type says so. `ended` is set once the input has said that it ends.
 #[derive(Drop)]
 pub struct Window {
     pending: Pending,
     ended: bool,
+    ghost few: { length pending ≤ 9665 },
 }
 
 // What stands at the front of a stream, where it is not refused.
@@ -32,6 +32,8 @@ pub enum Front<'a> {
 }
 
 impl Window {
+    ghost use Rattle.feed.specs.Windows.{pending_in, ended_in, Extended, seen, sight_of, Right};
+
     pub fn new(heap: Global) -> Result<Window, AllocError>
         ensures { IfOk result (λ w. (pending_in w ≡ []) × (ended_in w ≡ false)) }
     {

@@ -1,5 +1,5 @@
 // The bytes that were read and not yet taken.
-ghost use Rattle.std.specs.Prelude.{◌≡◌, ◌+◌, ◌<◌, ◌≤◌, [], length, drop, IfOk};
+ghost use Rattle.std.specs.Prelude.{◌≡◌, ◌+◌, ◌<◌, ◌≤◌, [], length, drop, IfOk, vec_len};
 ghost use Rattle.feed.specs.Windows.{Extended};
 
 use std::alloc::{AllocError, Global};
@@ -58,13 +58,26 @@ impl Pending {
         requires { length self.old < 1474 }
         ensures kept { Extended self.old self.new }
         ensures more { IfOk result (λ n. length self.new ≡ length self.old + n) }
+        ensures few { length self.new ≤ 9665 }
     {
-        self.bytes.drain(..self.start);
+        drop_first(&mut self.bytes, self.start);
         self.start = 0;
         // No call of std makes one read into a vector's spare room, so the bytes come by way of an array.
         let mut chunk = [0; CHUNK];
         let n = input.read(&mut chunk)?;
         self.bytes.extend_from_slice(&chunk[..n])?;
         Ok(n)
+    }
+}
+
+// Takes n bytes from the front. `drain` would first turn the whole buffer round.
+fn drop_first(bytes: &mut Vec<u8>, n: usize)
+    requires { n ≤ vec_len bytes.old }
+    ensures { bytes.new.items ≡ drop n bytes.old.items }
+{
+    if n > 0 {
+        let left = bytes.len() - n;
+        bytes.copy_within(n.., 0);
+        bytes.truncate(left);
     }
 }
