@@ -1,5 +1,5 @@
 -- What a test keeps of a list: sums, the best number, and all but one place.
-use Rattle.std.proofs.Common.{◌≡◌, ℕ, zero, suc, ◌+◌, ◌<◌, Bool, true, false, cond, List, [], ◌∷◌, map, length, get_or, Some, None, Option, fold, sum_by, filter, sym, refl, ap, ◌∙◌, subst, ⊎_elim, arith}
+use Rattle.std.proofs.Common.{◌≡◌, ℕ, zero, suc, ◌+◌, ◌<◌, ◌≤◌, max, Bool, true, false, cond, ltb, List, [], ◌∷◌, map, length, get_or, Some, None, Option, fold, sum_by, filter, sym, refl, ap, ◌∙◌, subst, ⊎_elim, arith}
 use Rattle.std.specs.Cmp.{IsStrictWeakOrder}
 use Rattle.std.specs.List.{remove, reduce, All, Any, Contains}
 use Rattle.std.proofs.lemmas.List.{get_or_default}
@@ -9,6 +9,8 @@ use Rattle.std.proofs.lemmas.List.MinMax.{IsFirstBest-from_best_of}
 use Rattle.std.proofs.lemmas.List.Sums.{sum_by-cons}
 use Rattle.std.proofs.lemmas.Map.Made.{Contains-tail}
 use Rattle.std.proofs.lemmas.Bool.{cases_Bool, cases_eq, cond-true, cond-false, both_ways}
+use Rattle.std.proofs.lemmas.Bool.Decides.{nat_tests}
+use Rattle.book.specs.Books.{greatest}
 
 -- ---- sums
 -- one element more, kept or not
@@ -18,6 +20,35 @@ sum_kept_more f q x xs = ⊎_elim (λ t. grind (arith, t, sum_by-cons f x (filte
 pub sum_kept : {X : Type 0} (f : X → ℕ) (q : X → Bool) (xs : List X) → sum_by f (filter q xs) ≡ sum_by (λ x. cond (q x) (f x) 0) xs
 sum_kept f q [] = refl
 sum_kept f q (x ∷ xs) = sum_kept_more f q x xs ∙ ap (λ n. cond (q x) (f x) 0 + n) (sum_kept f q xs) ∙ sym (sum_by-cons (λ y. cond (q y) (f y) 0) x xs)
+
+-- ---- the greatest, with 0 for none
+abbrev pub unless0 : ℕ → Option ℕ
+unless0 n = cond (ltb 0 n) (Some n) None
+
+from_start : (a : ℕ) (ns : List ℕ) → a ≤ fold max a ns
+from_start a [] = omega arith
+from_start a (n ∷ ns) = omega (arith, from_start (max a n) ns)
+
+module _ {X : Type 0} (f : X → ℕ) (q : X → Bool) where
+  max_kept : (xs : List X) (a : ℕ) → fold max a (map f (filter q xs)) ≡ fold (λ m x. max m (cond (q x) (f x) 0)) a xs
+  max_kept [] a = refl
+  max_kept (x ∷ xs) a = ⊎_elim
+      (λ t. grind (arith, t, max_kept xs (max a (f x))))
+      (λ e. let same : max a 0 ≡ a = omega arith in grind (arith, e, max_kept xs a))
+      (cases_Bool (q x))
+
+  greatest_from_0 : (xs : List X) → All (λ x. 1 ≤ f x) xs → greatest (map f (filter q xs)) ≡ unless0 (fold max 0 (map f (filter q xs)))
+  greatest_from_0 [] h = refl
+  greatest_from_0 (x ∷ xs) h = ⊎_elim
+      (λ t. let ns = map f (filter q xs) in
+      let same : max 0 (f x) ≡ f x = omega arith in
+      grind (arith, nat_tests, t, same, All-head (λ y. 1 ≤ f y) x xs h, from_start (f x) ns))
+      (λ e. grind (arith, e, greatest_from_0 xs (All-tail (λ y. 1 ≤ f y) x xs h)))
+      (cases_Bool (q x))
+
+  -- of what a test keeps, by one pass over the whole list
+  pub greatest_kept : (xs : List X) → All (λ x. 1 ≤ f x) xs → greatest (map f (filter q xs)) ≡ unless0 (fold (λ m x. max m (cond (q x) (f x) 0)) 0 xs)
+  greatest_kept xs h = greatest_from_0 xs h ∙ ap unless0 (max_kept xs 0)
 
 -- ---- the best of some numbers, which op picks of two
 module _ (beats : ℕ → ℕ → Bool) (order : IsStrictWeakOrder beats) (op : ℕ → ℕ → ℕ) (picks : (a x : ℕ) → op a x ≡ cond (beats x a) x a) where

@@ -1,7 +1,5 @@
 -- What keeps a book sound, for whoever writes another book.
 use Rattle.std.proofs.Common.{◌≡◌, ℕ, ◌+◌, ◌<◌, ◌≤◌, true, false, eqb, ltb, List, [], ◌∷◌, ◌++◌, length, Ok, Err, sym, ap, ⊎_elim, arith}
-use Rattle.std.proofs.Math.Logic.{∥∥₁_elim}
-use Rattle.std.proofs.Math.Bridge.{le_prop}
 use Rattle.std.specs.List.{HoldsAt, remove}
 use Rattle.std.proofs.lemmas.List.{length_push}
 use Rattle.std.proofs.lemmas.List.Edits.{length-remove, get_or-remove_below, get_or-remove_above}
@@ -14,18 +12,6 @@ use Rattle.std.proofs.lemmas.Bool.Decides.{nat_tests}
 use Rattle.fault.specs.declared.Fault.TheVariants.{NotFound}
 use Rattle.book.specs.declared.bid.Bid.{Bid}
 use Rattle.book.specs.Books.{Sound, has_number, above_all, add_answer, remove_answer}
-
--- a book is sound in one way at most
-pub sound_once : (bids : List Bid) (capacity top : ℕ) → IsProp (Sound bids capacity top)
-sound_once bids capacity top p q = λ i. record {
-  ascend = λ a b d l m. le_prop (p.ascend a b d l m) (q.ascend a b d l m) i;
-  limits = λ k d l. le_prop (p.limits k d l) (q.limits k d l) i;
-  count = le_prop p.count q.count i;
-  highest = le_prop p.highest q.highest i;
-}
-
-pub sound_in : (bids : List Bid) (capacity top : ℕ) → ∥ Sound bids capacity top ∥₁ → Sound bids capacity top
-sound_in bids capacity top h = ∥∥₁_elim h (sound_once bids capacity top) (λ s. s)
 
 -- an accepted bid keeps it sound
 pub sound_push : (bids : List Bid) (capacity top : ℕ) (bid : Bid) → Sound bids capacity top → add_answer bids capacity top bid ≡ Ok tt → Sound (bids ++ bid ∷ []) capacity top

@@ -1,5 +1,5 @@
 -- Searches among bids whose numbers ascend.
-use Rattle.std.proofs.Common.{◌≡◌, ℕ, suc, ◌-◌, ◌<◌, ◌≤◌, min, true, false, not, eqb, ltb, List, [], ◌∷◌, map, length, get_or, Some, Ok, Err, filter, fold, Result, MatchOption, sym, refl, ap, ◌∙◌, ⊎_elim, arith}
+use Rattle.std.proofs.Common.{◌≡◌, ℕ, suc, ◌+◌, ◌-◌, ◌<◌, ◌≤◌, min, Bool, true, false, not, eqb, ltb, List, [], ◌∷◌, map, length, get_or, Some, Ok, Err, filter, fold, Result, MatchOption, sym, refl, ap, ◌∙◌, ⊎_elim, arith}
 use Rattle.std.specs.List.{All, HoldsAt, remove, find, slice_get}
 use Rattle.std.specs.List.Sorted.{IsSearchInRange, IsBinarySearchResult, IsNonDecreasingBy}
 use Rattle.std.specs.Option.{option_map}
@@ -9,12 +9,13 @@ use Rattle.std.specs.Str.{bytes_eq}
 use Rattle.std.proofs.lemmas.Cmp.{ranked}
 use Rattle.std.proofs.lemmas.List.Elements.{All-filter, All-map, All-tail}
 use Rattle.std.proofs.lemmas.List.Folds.{list_any_none}
-use Rattle.std.proofs.lemmas.List.Sums.{list_all-from_AllPass}
+use Rattle.std.proofs.lemmas.List.Sums.{AllPass-from_list_all, fold_more, list_all-from_AllPass}
+use Rattle.std.proofs.lemmas.List.{take_all}
 use Rattle.std.proofs.lemmas.Option.{slice_get_within, get_or_from_slice_get}
-use Rattle.std.proofs.lemmas.Bool.{cases_Bool, cases_lt, cases_order, lt-ltb, eq-eqb, ne_eqb, not_from_true, not_from_false}
+use Rattle.std.proofs.lemmas.Bool.{cases_Bool, cases_lt, cases_order, lt-ltb, ltb-true, both_ways, eq-eqb, ne_eqb, not_from_true, not_from_false}
 use Rattle.std.proofs.lemmas.Bool.Decides.{nat_tests}
 use Rattle.book.specs.declared.bid.Bid.{Bid}
-use Rattle.book.specs.Books.{Ascend, has_number, above_all, number_with, after_remove}
+use Rattle.book.specs.Books.{Ascend, has_number, above_all, last_number, number_with, after_remove}
 use Rattle.book.proofs.Filters.{kept_others}
 
 module _ (bids : List Bid) (up : Ascend bids) (n : ℕ) where
@@ -59,15 +60,38 @@ first_is_lowest t (b ∷ bids) up =
     (cases_Bool (bytes_eq b.token t))
 
 -- ---- the last bid
-module _ (bids : List Bid) (last : Bid) (is : slice_get bids (length bids - 1) ≡ Some last) where
-  some0 : length bids - 1 < length bids
-  some0 = slice_get_within bids (length bids - 1) last is
+pub last_is : (xs : List Bid) (d : Bid) → 0 < length xs → last_number xs ≡ (get_or xs (length xs - 1) d).number
+last_is xs d l =
+    let i = length xs - 1 in
+    let e : length xs ≤ i + 1 = omega arith in
+    sym (ap last_number (take_all (i + 1) xs e)) ∙ fold_more (λ _ (b : Bid). b.number) 0 xs i d (omega arith)
 
-  -- above the last number is above all
-  pub above_last : (n : ℕ) → Ascend bids → last.number < n → above_all n bids ≡ true
-  above_last n up lt = list_all-from_AllPass (λ b. ltb b.number n) bids (λ k d l.
-      let e = ap (λ (b : Bid). b.number) (get_or_from_slice_get bids (length bids - 1) last d is) in
-      lt-ltb _ n (⊎_elim
-      (λ before. omega (arith, up k (length bids - 1) d before some0))
-      (λ at. let same : k ≡ length bids - 1 = omega arith in omega (arith, ap (λ i. (get_or bids i d).number) same))
-      (cases_lt k (length bids - 1))))
+-- above the last number is above all, and the other way round
+pub above_last : (n : ℕ) (xs : List Bid) → Ascend xs → (length xs ≡ 0 → ⊥) → ltb (last_number xs) n ≡ above_all n xs
+above_last n [] up some0 = absurd (some0 refl)
+above_last n (x ∷ xs) up some0 =
+    let bids = x ∷ xs in
+    let i = length bids - 1 in
+    let end : i < length bids = omega arith in
+    let under : Bid → Bool = λ b. ltb b.number n in
+    ⊎_elim
+    (λ t. t ∙ sym (list_all-from_AllPass under bids (λ k d l. lt-ltb _ n (
+    let last = last_is bids d (omega arith) in
+    let lt = ltb-true _ _ t in
+    ⊎_elim
+    (λ before. omega (arith, up k i d before end))
+    (λ at. let same : k ≡ i = omega arith in omega (arith, ap (λ j. (get_or bids j d).number) same))
+    (cases_lt k i)))))
+    (λ e. e ∙ sym (⊎_elim
+    (λ all. absurd (both_ways _ (ap (λ m. ltb m n) (sym (last_is bids x (omega arith))) ∙ e) (AllPass-from_list_all under bids all i x end)))
+    (λ no. no)
+    (cases_Bool (above_all n bids))))
+    (cases_Bool (ltb (last_number bids) n))
+
+module _ (bids : List Bid) (last : Bid) (is : slice_get bids (length bids - 1) ≡ Some last) where
+  -- the same of the last bid itself
+  pub above_last_bid : (n : ℕ) → Ascend bids → last.number < n → above_all n bids ≡ true
+  above_last_bid n up lt =
+      let some0 = slice_get_within bids (length bids - 1) last is in
+      let e = ap (λ (b : Bid). b.number) (get_or_from_slice_get bids (length bids - 1) last last is) in
+      sym (above_last n bids up (λ none. absurd (omega arith))) ∙ lt-ltb _ n (omega (arith, last_is bids last (omega arith)))

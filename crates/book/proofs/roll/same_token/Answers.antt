@@ -1,13 +1,14 @@
-use Rattle.std.proofs.Common.{rules, tests, arith}
-use Rattle.std.proofs.lemmas.Bool.Decides.{same_from_decides}
-use Rattle.std.proofs.lemmas.Iterator.{YieldsList-from_slice, YieldsList-from_zip, same_from_all}
-use Rattle.std.proofs.lemmas.Slice.Eq.{bytes_eq-Decides}
+use Rattle.std.proofs.Common.{◌≡◌, eqb, refl, ◌∙◌, rules, arith}
+use Rattle.std.specs.List.{list_all}
+use Rattle.std.proofs.lemmas.Fn.{fold_over, fronts}
+use Rattle.std.proofs.lemmas.Iterator.{YieldsList-from_slice, YieldsList-from_zip, zips}
+use Rattle.std.proofs.lemmas.List.Folds.{list_all-append}
+use Rattle.book.proofs.Passes.{same_bytes}
 use Rattle.book.proofs.roll.same_token.Goals as goal
 
 pub returns : goal.returns
 returns c =
     let a = c.args.a.now in
     let b = c.args.b.now in
-    same_from_decides _ _
-    (same_from_all c.all.new.self _ _ a b c.all.ensures.ran (YieldsList-from_zip (YieldsList-from_slice a cc) (YieldsList-from_slice b cc)) (omega arith) (λ x q k. search (rules, tests)) (λ x q k. search (rules, tests)))
-    (bytes_eq-Decides a b)
+    fold_over (zips fronts fronts) (λ p. (p.0.now, p.1.now)) _ (λ ps r. r ≡ list_all (λ p. eqb p.0 p.1) ps) _ (λ ps r p q f' j k. search (rules, list_all-append))
+    c.zip.result _ _ _ (YieldsList-from_zip (YieldsList-from_slice a cc) (YieldsList-from_slice b cc)).runs refl c.fold.ensures.ran ∙ same_bytes a b (omega arith)
