@@ -70,7 +70,8 @@ impl Pending {
     }
 }
 
-// Takes n bytes from the front. `drain` would first turn the whole buffer round.
+// Takes n bytes from the front. `drain` would first turn the whole buffer round. For 0 nothing is moved: an input that gives
+// little at a time comes here often.
 fn drop_first(bytes: &mut Vec<u8>, n: usize)
     requires { n ≤ vec_len bytes.old }
     ensures { bytes.new.items ≡ drop n bytes.old.items }

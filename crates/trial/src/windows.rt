@@ -1,4 +1,7 @@
 // A window fed by an input that gives one byte at a time.
+ghost use Rattle.std.specs.Prelude.{◌≤◌, length};
+ghost use Rattle.feed.specs.Windows.{pending_in};
+
 use fault::Fault;
 use feed::{Front, Window};
 use std::io;
@@ -27,8 +30,10 @@ impl Read for Dribble<'_> {
     }
 }
 
-// Fills until the front can be told.
-fn settle(window: &mut Window, input: &mut Dribble<'_>) -> io::Result<()> {
+// Fills until the front can be told. Whoever has a window knows its bound, whatever was called.
+fn settle(window: &mut Window, input: &mut Dribble<'_>) -> io::Result<()>
+    ensures { length (pending_in window.new) ≤ 9665 }
+{
     for _ in 0..2000 {
         if let Ok(Front::Wanting) = window.front() {
             window.fill(input)?;
